@@ -30,6 +30,7 @@ pub mod Values
 pub mod FieldLemmas
 pub mod TraceLemmas
 pub mod Lists
+pub mod WordTables
 pub mod MessageLemmas
 pub mod FormLemmas
 pub mod Pieces

@@ -1,5 +1,5 @@
 -- Reading the answer of an entry.
-use Rattle.std.specs.Prelude.{ℕ, ◌^◌, nat_le, Bool, false, List, [], ◌∷◌, map, codes, Option, Some, None, Result, Ok, Err, if◌then◌else◌}
+use Rattle.std.specs.Prelude.{ℕ, ◌^◌, nat_le, Bool, false, List, [], ◌∷◌, ◌++◌, map, codes, Option, Some, None, Result, Ok, Err, if◌then◌else◌}
 use Rattle.ftp_base.specs.declared.fault.LinkFault.{LinkFault}
 use Rattle.ftp_proxy.specs.declared.error.ProxyError.{ProxyError}
 use Rattle.ftp_proxy.specs.declared.header.ProxyHeader.{ProxyHeader}
@@ -19,9 +19,13 @@ use Rattle.ftp_text.specs.LogLines.{answer_word_text, maybe_fault_text}
 abbrev pub answer_words : List AnswerWord
 answer_words = word.Header ∷ word.Done ∷ word.Moved ∷ []
 
+-- all ends of transfers that are no refusals
+abbrev pub own_results : List Completion
+own_results = result.Sent ∷ result.Written ∷ result.Listed ∷ result.WriteFailed ∷ result.OutOfMemory ∷ []
+
 -- all ends of transfers
 abbrev pub results : List Completion
-results = result.Sent ∷ result.Written ∷ result.Listed ∷ result.WriteFailed ∷ result.OutOfMemory ∷ map result.Refused kinds
+results = own_results ++ map result.Refused kinds
 
 -- all that a link can have met
 abbrev pub maybe_faults : List (Option LinkFault)

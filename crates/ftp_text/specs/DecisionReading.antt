@@ -1,14 +1,13 @@
 -- Reading the decision of an entry.
-use Rattle.std.specs.Prelude.{ℕ, ◌^◌, List, [], ◌∷◌, codes, Option, Some, None}
+use Rattle.std.specs.Prelude.{ℕ, ◌^◌, List, [], ◌∷◌, map, codes, Option, Some, None}
 use Rattle.ftp_base.specs.declared.error_kind.ErrorKind.TheVariants as error
 use Rattle.ftp_base.specs.declared.login.LockState.{LockState}
-use Rattle.ftp_base.specs.declared.login.LockState.TheVariants as lock
 use Rattle.ftp_proxy.specs.declared.error.ProxyError.TheVariants as proxy
 use Rattle.ftp_events.specs.declared.decision.Decision.{Decision}
 use Rattle.ftp_events.specs.declared.decision.Decision.TheVariants as decision
-use Rattle.ftp_text.specs.Fields.{kind_text, proxy_error_text}
+use Rattle.ftp_text.specs.Fields.{values, kind_text, proxy_error_text}
 use Rattle.ftp_text.specs.Reading.{Reader, pair, made, behind_text, number_field, small_field, ticket_field, word_value, worded, kinds, proxy_errors}
-use Rattle.ftp_text.specs.Printing.{decision_text, lock_text}
+use Rattle.ftp_text.specs.Printing.{decision_text, lock_words, lock_text}
 
 -- a decision of each name, whose fields say nothing
 abbrev pub heads : List Decision
@@ -35,7 +34,7 @@ head d = d
 
 -- how a login can stand with the lock
 abbrev pub locks : List (Option LockState)
-locks = None ∷ Some lock.MaxFailuresReached ∷ Some lock.AlreadyLocked ∷ []
+locks = None ∷ map Some (values lock_words)
 
 -- how a failed login stands with the lock, and after how long it is answered
 abbrev pub lock_and_delay_at : Reader (Option LockState × ℕ)

@@ -1,8 +1,9 @@
 -- How the fields of a line are spelled: each value has one spelling.
 --
 -- A field begins with the one space that stands before it, and a text is the last field of its line.
-use Rattle.std.specs.Prelude.{◌≡◌, ℕ, zero, suc, ◌/◌, ◌%◌, ◌^◌, ◌<◌, ◌≢◌, ◌==◌, ◌&&◌, not, nat_le, Bool, true, false, List, [], ◌∷◌, ◌++◌, map, codes, decimal, Option, Some, None, if◌then◌else◌}
+use Rattle.std.specs.Prelude.{◌≡◌, ℕ, zero, suc, ◌/◌, ◌%◌, ◌^◌, ◌<◌, ◌≢◌, ◌==◌, ◌&&◌, not, nat_le, Bool, true, false, List, [], ◌∷◌, ◌++◌, map, find, codes, decimal, Option, Some, None, if◌then◌else◌}
 use Rattle.std.specs.List.{flat_map, join_with_byte, AllByRecursion}
+use Rattle.std.specs.Option.{option_map_or}
 use Rattle.std.specs.Fmt.{digit_glyph}
 use Rattle.std.specs.Int.{w32, to_be_bytes}
 use Rattle.ftp_base.specs.Calls.{rises_above}
@@ -11,12 +12,16 @@ use Rattle.ftp_base.specs.declared.net.IpAddr.TheVariants.{V4, V6}
 use Rattle.ftp_base.specs.declared.net.SocketAddr.{SocketAddr}
 use Rattle.ftp_base.specs.declared.login.AuthAnswer.{AuthAnswer}
 use Rattle.ftp_base.specs.declared.login.AuthAnswer.TheVariants as auth
+use Rattle.ftp_base.specs.contracts.login.AuthAnswerPartialEq.TheImpl as auth_eq
 use Rattle.ftp_base.specs.declared.error_kind.ErrorKind.{ErrorKind}
 use Rattle.ftp_base.specs.declared.error_kind.ErrorKind.TheVariants as error
+use Rattle.ftp_base.specs.contracts.error_kind.ErrorKindPartialEq.TheImpl as kind_eq
 use Rattle.ftp_base.specs.declared.fault.LinkFault.{LinkFault}
 use Rattle.ftp_base.specs.declared.fault.LinkFault.TheVariants as link
+use Rattle.ftp_base.specs.contracts.fault.LinkFaultPartialEq.TheImpl as fault_eq
 use Rattle.ftp_proxy.specs.declared.error.ProxyError.{ProxyError}
 use Rattle.ftp_proxy.specs.declared.error.ProxyError.TheVariants as proxy
+use Rattle.ftp_proxy.specs.contracts.error.ProxyErrorPartialEq.TheImpl as proxy_error_eq
 use Rattle.ftp_proxy.specs.declared.error.ReadError.TheVariants as read
 
 -- a space, and what stands in the field
@@ -80,51 +85,61 @@ optional_text (Some text) = field (escape text)
 abbrev pub ticket : ℕ → ℕ → List ℕ
 ticket session nr = number session ++ 46 ∷ decimal nr
 
+-- the word of a value in a table of words
+abbrev pub word_in : {V : Type 0} → (V → V → Bool) → List (List ℕ × V) → V → List ℕ
+word_in same table value = option_map_or (λ row. row.0) (find (λ row. same row.1 value) table) []
+
+-- the values of a table of words
+abbrev pub values : {V : Type 0} → List (List ℕ × V) → List V
+values table = map (λ row. row.1) table
+
+-- the words of an authenticator
+abbrev pub auth_words : List (List ℕ × AuthAnswer)
+auth_words =
+    (codes "good", auth.Good) ∷ (codes "disabled", auth.Disabled) ∷ (codes "notentered", auth.NotEntered)
+    ∷ (codes "baduser", auth.BadUser) ∷ (codes "refused", auth.Refused) ∷ []
+
 -- what the authenticator says
 abbrev pub answer_text : AuthAnswer → List ℕ
-answer_text auth.Good = codes "good"
-answer_text auth.Disabled = codes "disabled"
-answer_text auth.NotEntered = codes "notentered"
-answer_text auth.BadUser = codes "baduser"
-answer_text auth.Refused = codes "refused"
+answer_text = word_in auth_eq.ghosts.eq auth_words
+
+-- the words of a storage that refuses
+abbrev pub kind_words : List (List ℕ × ErrorKind)
+kind_words =
+    (codes "transientfile", error.TransientFileNotAvailable) ∷ (codes "permanentfile", error.PermanentFileNotAvailable)
+    ∷ (codes "permanentdir", error.PermanentDirectoryNotAvailable) ∷ (codes "dirnotempty", error.PermanentDirectoryNotEmpty)
+    ∷ (codes "permission", error.PermissionDenied) ∷ (codes "closed", error.ConnectionClosed)
+    ∷ (codes "local", error.LocalError) ∷ (codes "pagetype", error.PageTypeUnknown)
+    ∷ (codes "space", error.InsufficientStorageSpaceError) ∷ (codes "exceeded", error.ExceededStorageAllocationError)
+    ∷ (codes "badname", error.FileNameNotAllowedError) ∷ (codes "notimplemented", error.CommandNotImplemented) ∷ []
 
 -- why a storage refuses
 abbrev pub kind_text : ErrorKind → List ℕ
-kind_text error.TransientFileNotAvailable = codes "transientfile"
-kind_text error.PermanentFileNotAvailable = codes "permanentfile"
-kind_text error.PermanentDirectoryNotAvailable = codes "permanentdir"
-kind_text error.PermanentDirectoryNotEmpty = codes "dirnotempty"
-kind_text error.PermissionDenied = codes "permission"
-kind_text error.ConnectionClosed = codes "closed"
-kind_text error.LocalError = codes "local"
-kind_text error.PageTypeUnknown = codes "pagetype"
-kind_text error.InsufficientStorageSpaceError = codes "space"
-kind_text error.ExceededStorageAllocationError = codes "exceeded"
-kind_text error.FileNameNotAllowedError = codes "badname"
-kind_text error.CommandNotImplemented = codes "notimplemented"
+kind_text = word_in kind_eq.ghosts.eq kind_words
 
 -- what a storage says of a call: why it refuses, or ok
 abbrev pub refusal_text : Option ErrorKind → List ℕ
-refusal_text None = codes "ok"
-refusal_text (Some kind) = kind_text kind
+refusal_text refusal = option_map_or kind_text refusal (codes "ok")
+
+-- the words of what a call on a connection meets
+abbrev pub fault_words : List (List ℕ × LinkFault)
+fault_words =
+    (codes "reset", link.Reset) ∷ (codes "pipe", link.BrokenPipe) ∷ (codes "aborted", link.Aborted) ∷ (codes "other", link.Other) ∷ []
 
 -- what a call on a connection meets
 abbrev pub fault_text : LinkFault → List ℕ
-fault_text link.Reset = codes "reset"
-fault_text link.BrokenPipe = codes "pipe"
-fault_text link.Aborted = codes "aborted"
-fault_text link.Other = codes "other"
+fault_text = word_in fault_eq.ghosts.eq fault_words
+
+-- the words of what can be wrong with the header of a proxy
+abbrev pub proxy_error_words : List (List ℕ × ProxyError)
+proxy_error_words =
+    (codes "size", proxy.HeaderSize) ∷ (codes "crlf", proxy.CrlfError) ∷ (codes "notproxy", proxy.NotProxyHdr)
+    ∷ (codes "decode", proxy.DecodeError) ∷ (codes "ipv4", proxy.IPv4Required) ∷ (codes "version", proxy.UnsupportedVersion)
+    ∷ (codes "eof", proxy.ReadError read.UnexpectedEof) ∷ (codes "fault", proxy.ReadError read.Fault) ∷ []
 
 -- why the header of a proxy is none
 abbrev pub proxy_error_text : ProxyError → List ℕ
-proxy_error_text proxy.HeaderSize = codes "size"
-proxy_error_text proxy.CrlfError = codes "crlf"
-proxy_error_text proxy.NotProxyHdr = codes "notproxy"
-proxy_error_text proxy.DecodeError = codes "decode"
-proxy_error_text proxy.IPv4Required = codes "ipv4"
-proxy_error_text proxy.UnsupportedVersion = codes "version"
-proxy_error_text (proxy.ReadError read.UnexpectedEof) = codes "eof"
-proxy_error_text (proxy.ReadError read.Fault) = codes "fault"
+proxy_error_text = word_in proxy_error_eq.ghosts.eq proxy_error_words
 
 -- a failing call on a connection: its number, a colon and what it meets
 abbrev pub link_call_text : ℕ × LinkFault → List ℕ

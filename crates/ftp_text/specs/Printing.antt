@@ -1,6 +1,7 @@
 -- How the log is printed: the lines of each entry.
 use Rattle.std.specs.Prelude.{ℕ, Bool, true, false, List, [], ◌∷◌, ◌++◌, length, codes, Option, Some, None, Result, Ok, Err}
 use Rattle.std.specs.List.{flat_map}
+use Rattle.std.specs.Option.{option_map_or}
 use Rattle.ftp_base.specs.declared.notice.PresenceEvent.TheVariants as presence
 use Rattle.ftp_base.specs.declared.notice.DataEvent.TheVariants.{Got, Put, Deleted, MadeDir, RemovedDir, Renamed}
 use Rattle.ftp_base.specs.declared.notice.Notice.{Notice}
@@ -12,6 +13,7 @@ use Rattle.ftp_base.specs.Reply.{code_text}
 use Rattle.ftp_base.specs.Trace.{trace_text}
 use Rattle.ftp_base.specs.declared.login.LockState.{LockState}
 use Rattle.ftp_base.specs.declared.login.LockState.TheVariants as lock
+use Rattle.ftp_base.specs.contracts.login.LockStatePartialEq.TheImpl as lock_eq
 use Rattle.ftp_proxy.specs.declared.error.ProxyError.{ProxyError}
 use Rattle.ftp_proxy.specs.declared.header.ProxyHeader.{ProxyHeader}
 use Rattle.ftp_transfer.specs.declared.job.Completion.{Completion}
@@ -24,7 +26,7 @@ use Rattle.ftp_events.specs.declared.decision.Decision.TheVariants as decision
 use Rattle.ftp_events.specs.declared.entry.Entry.{Entry}
 use Rattle.ftp_events.specs.declared.event.Answer.{Answer}
 use Rattle.ftp_events.specs.declared.event.Answer.TheVariants as answer
-use Rattle.ftp_text.specs.Fields.{field, number, address_text, escape, optional, ticket, kind_text, fault_text, proxy_error_text}
+use Rattle.ftp_text.specs.Fields.{field, number, address_text, escape, optional, ticket, word_in, kind_text, fault_text, proxy_error_text}
 use Rattle.ftp_text.specs.Events.{event_line}
 
 -- a line with its line feed
@@ -33,11 +35,13 @@ line text = text ++ 10 ∷ []
 
 -- ---- decisions
 
+-- the words of the lock
+abbrev pub lock_words : List (List ℕ × LockState)
+lock_words = (codes "reached", lock.MaxFailuresReached) ∷ (codes "locked", lock.AlreadyLocked) ∷ []
+
 -- how a login stands with the lock
 abbrev pub lock_text : Option LockState → List ℕ
-lock_text None = codes "none"
-lock_text (Some lock.MaxFailuresReached) = codes "reached"
-lock_text (Some lock.AlreadyLocked) = codes "locked"
+lock_text state = option_map_or (word_in lock_eq.ghosts.eq lock_words) state (codes "none")
 
 -- the name of a decision
 abbrev pub decision_text : Decision → List ℕ

@@ -1,6 +1,8 @@
 -- Reading the fields of a line from left to right. What a reader finds is a value and the bytes behind it.
 use Rattle.std.specs.Prelude.{◌≡◌, ℕ, ◌+◌, ◌*◌, ◌^◌, ◌<◌, ◌==◌, ◌&&◌, nat_lt, Bool, false, List, [], ◌∷◌, ◌++◌, length, take, drop, map, find, codes, decimal, Option, Some, None, Result, Ok, Err, if◌then◌else◌}
 use Rattle.std.specs.List.{prefix_len, position_or_len, slice_split}
+use Rattle.std.specs.Borrow.{Bor}
+use Rattle.std.specs.Map.{lookup}
 use Rattle.std.specs.Str.{bytes_eq}
 use Rattle.std.specs.Char.{is_ascii_digit, digit_value}
 use Rattle.std.specs.Str.Parse.{digits_value}
@@ -10,18 +12,13 @@ use Rattle.ftp_base.specs.declared.net.IpAddr.{IpAddr}
 use Rattle.ftp_base.specs.declared.net.IpAddr.TheVariants.{V4, V6}
 use Rattle.ftp_base.specs.declared.net.SocketAddr.{SocketAddr}
 use Rattle.ftp_base.specs.declared.login.AuthAnswer.{AuthAnswer}
-use Rattle.ftp_base.specs.declared.login.AuthAnswer.TheVariants as auth
 use Rattle.ftp_base.specs.declared.error_kind.ErrorKind.{ErrorKind}
-use Rattle.ftp_base.specs.declared.error_kind.ErrorKind.TheVariants as error
 use Rattle.ftp_base.specs.declared.fault.LinkFault.{LinkFault}
-use Rattle.ftp_base.specs.declared.fault.LinkFault.TheVariants as link
 use Rattle.ftp_base.specs.Calls.{rises_above}
 use Rattle.ftp_proxy.specs.declared.error.ProxyError.{ProxyError}
-use Rattle.ftp_proxy.specs.declared.error.ProxyError.TheVariants as proxy
-use Rattle.ftp_proxy.specs.declared.error.ReadError.TheVariants as read
 use Rattle.ftp_text.specs.declared.fault.LineFault.{LineFault}
 use Rattle.ftp_text.specs.declared.fault.LineFault.TheVariants as fault
-use Rattle.ftp_text.specs.Fields.{hex_byte, hex_digits, is_plain, escape_byte, answer_text, refusal_text, fault_text}
+use Rattle.ftp_text.specs.Fields.{hex_byte, hex_digits, is_plain, escape_byte, values, auth_words, answer_text, kind_words, refusal_text, fault_words, fault_text, proxy_error_words}
 
 -- what finds a value at the front
 abbrev pub Reader : Type 0 → Type 0
@@ -298,6 +295,11 @@ hex_field bytes = word_as hex_of bytes
 abbrev pub find_word : {V : Type 0} → (V → List ℕ) → List V → List ℕ → Option V
 find_word text table w = find (λ v. bytes_eq (text v) w) table
 
+-- the value of a table of names, where none stands for no value
+abbrev pub named_or_none : {V : Type 0} → List ℕ → List (Bor (List ℕ) × V) → List ℕ → Option (Option V)
+named_or_none none table w =
+    if bytes_eq none w then Some None else lookup (λ name. bytes_eq name.now w) (map (λ row. (row.0, Some row.1)) table)
+
 -- the value of a table that a word spells
 unfoldable pub word_value : {V : Type 0} → (V → List ℕ) → List V → Reader V
 word_value text table bytes = word_as (find_word text table) bytes
@@ -318,7 +320,7 @@ by_word text table read w bytes = valued text table w bytes >>= λ v. read v.0 v
 
 -- all that an authenticator can say
 abbrev pub answers : List AuthAnswer
-answers = auth.Good ∷ auth.Disabled ∷ auth.NotEntered ∷ auth.BadUser ∷ auth.Refused ∷ []
+answers = values auth_words
 
 -- what an authenticator says
 abbrev pub answer_field : Reader AuthAnswer
@@ -326,11 +328,7 @@ answer_field = word_value answer_text answers
 
 -- all kinds of refusals by a storage
 abbrev pub kinds : List ErrorKind
-kinds =
-    error.TransientFileNotAvailable ∷ error.PermanentFileNotAvailable ∷ error.PermanentDirectoryNotAvailable
-    ∷ error.PermanentDirectoryNotEmpty ∷ error.PermissionDenied ∷ error.ConnectionClosed
-    ∷ error.LocalError ∷ error.PageTypeUnknown ∷ error.InsufficientStorageSpaceError
-    ∷ error.ExceededStorageAllocationError ∷ error.FileNameNotAllowedError ∷ error.CommandNotImplemented ∷ []
+kinds = values kind_words
 
 -- all that a storage can say of a call
 abbrev pub refusals : List (Option ErrorKind)
@@ -342,9 +340,7 @@ refusal_field = word_value refusal_text refusals
 
 -- all that can be wrong with the header of a proxy
 abbrev pub proxy_errors : List ProxyError
-proxy_errors =
-    proxy.HeaderSize ∷ proxy.CrlfError ∷ proxy.NotProxyHdr ∷ proxy.DecodeError ∷ proxy.IPv4Required ∷ proxy.UnsupportedVersion
-    ∷ proxy.ReadError read.UnexpectedEof ∷ proxy.ReadError read.Fault ∷ []
+proxy_errors = values proxy_error_words
 
 -- ---- the calls that fail
 
@@ -374,7 +370,7 @@ call_of w = all_of number_at w
 
 -- all that a call on a connection can meet
 abbrev pub faults : List LinkFault
-faults = link.Reset ∷ link.BrokenPipe ∷ link.Aborted ∷ link.Other ∷ []
+faults = values fault_words
 
 -- the failing call on a connection that all of a word spells
 unfoldable pub link_call_of : List ℕ → Option (ℕ × LinkFault)

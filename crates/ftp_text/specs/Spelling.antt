@@ -1,15 +1,16 @@
 -- The lines of a state: how each is spelled, without its line feed, and the ranges of what it says.
-use Rattle.std.specs.Prelude.{◌≡◌, ℕ, ◌^◌, ◌<◌, ◌≤◌, ◌||◌, Bool, true, List, [], ◌++◌, length, codes, decimal, Option, None, is_some, unwrap_or, if◌then◌else◌}
+use Rattle.std.specs.Prelude.{◌≡◌, ℕ, ◌^◌, ◌<◌, ◌≤◌, ◌||◌, Bool, true, List, [], ◌∷◌, ◌++◌, length, codes, decimal, Option, None, is_some, unwrap_or, if◌then◌else◌}
 use Rattle.std.specs.Option.{option_map}
 use Rattle.ftp_base.specs.declared.command.DataChanCmd.{DataChanCmd}
 use Rattle.ftp_base.specs.declared.command.DataChanCmd.TheVariants as command
 use Rattle.ftp_base.specs.Command.{path_of}
 use Rattle.ftp_events.specs.Statuses.{word_of}
-use Rattle.ftp_text.specs.Fields.{field, number, ip_text, address_text, escape, optional, Each, IsAddress, IsIp, IsNumber, IsText}
+use Rattle.ftp_text.specs.Fields.{field, number, word_in, ip_text, address_text, escape, optional, Each, IsAddress, IsIp, IsNumber, IsText}
 use Rattle.ftp_text.specs.Reading.{begins}
 use Rattle.ftp_hub.specs.declared.state.JobLine.{JobLine}
 use Rattle.ftp_hub.specs.declared.state.LoginState.{LoginState}
 use Rattle.ftp_hub.specs.declared.state.LoginState.TheVariants as login
+use Rattle.ftp_hub.specs.contracts.state.LoginStatePartialEq.TheImpl as login_eq
 use Rattle.ftp_hub.specs.declared.state.QueuedLine.{QueuedLine}
 use Rattle.ftp_hub.specs.declared.state.RecordLine.{RecordLine}
 use Rattle.ftp_hub.specs.declared.state.SessionLine.{SessionLine}
@@ -19,6 +20,7 @@ use Rattle.ftp_text.specs.declared.state_line.StateLine.{StateLine}
 use Rattle.ftp_text.specs.declared.state_line.StateLine.TheVariants as says
 use Rattle.ftp_events.specs.declared.status.CommandWord.{CommandWord}
 use Rattle.ftp_events.specs.declared.status.CommandWord.TheVariants as command_word
+use Rattle.ftp_events.specs.contracts.status.CommandWordPartialEq.TheImpl as command_word_eq
 use Rattle.ftp_text.specs.LineWords.{LineWord, SlotWord}
 use Rattle.ftp_text.specs.LineWords as word
 
@@ -34,26 +36,29 @@ line_word_text word.Slot = codes "slot"
 line_word_text word.Queued = codes "queued"
 line_word_text word.Job = codes "job"
 
+-- the words of how far a login is
+abbrev pub login_state_words : List (List ℕ × LoginState)
+login_state_words =
+    (codes "new", login.New) ∷ (codes "pass", login.Pass) ∷ (codes "out", login.Out) ∷ (codes "cmd", login.Cmd) ∷ []
+
 -- how far a login is
 abbrev pub login_state_text : LoginState → List ℕ
-login_state_text login.New = codes "new"
-login_state_text login.Pass = codes "pass"
-login_state_text login.Out = codes "out"
-login_state_text login.Cmd = codes "cmd"
+login_state_text = word_in login_eq.ghosts.eq login_state_words
 
 -- what a slot has: a port that is waited for, or a link
 abbrev pub slot_word_text : SlotWord → List ℕ
 slot_word_text word.Waits = codes "waits"
 slot_word_text word.Link = codes "link"
 
+-- the words of commands
+abbrev pub command_names : List (List ℕ × CommandWord)
+command_names =
+    (codes "retr", command_word.Retr) ∷ (codes "stor", command_word.Stor) ∷ (codes "appe", command_word.Appe)
+    ∷ (codes "list", command_word.List) ∷ (codes "nlst", command_word.Nlst) ∷ (codes "mlsd", command_word.Mlsd) ∷ []
+
 -- the word of each command
 abbrev pub command_word_text : CommandWord → List ℕ
-command_word_text command_word.Retr = codes "retr"
-command_word_text command_word.Stor = codes "stor"
-command_word_text command_word.Appe = codes "appe"
-command_word_text command_word.List = codes "list"
-command_word_text command_word.Nlst = codes "nlst"
-command_word_text command_word.Mlsd = codes "mlsd"
+command_word_text = word_in command_word_eq.ghosts.eq command_names
 
 -- ---- fields
 

@@ -7,7 +7,6 @@ use Rattle.ftp_base.specs.declared.net.SocketAddr.{SocketAddr}
 use Rattle.ftp_text.specs.Reading.{◌>>=◌, Reader, pair, made, tested, all_of, behind_text, number_at, ip_at, number_field, small_field, address_field, ip_field, optional_field, text_field, word_value, worded}
 use Rattle.ftp_hub.specs.declared.state.JobLine.{JobLine}
 use Rattle.ftp_hub.specs.declared.state.LoginState.{LoginState}
-use Rattle.ftp_hub.specs.declared.state.LoginState.TheVariants as login
 use Rattle.ftp_hub.specs.declared.state.QueuedLine.{QueuedLine}
 use Rattle.ftp_hub.specs.declared.state.RecordLine.{RecordLine}
 use Rattle.ftp_hub.specs.declared.state.SessionLine.{SessionLine}
@@ -19,7 +18,8 @@ use Rattle.ftp_events.specs.declared.status.CommandWord.{CommandWord}
 use Rattle.ftp_events.specs.declared.status.CommandWord.TheVariants as command_word
 use Rattle.ftp_text.specs.LineWords.{LineWord, SlotWord}
 use Rattle.ftp_text.specs.LineWords as word
-use Rattle.ftp_text.specs.Spelling.{line_word_text, login_state_text, slot_word_text, command_word_text, is_from_root, has_key}
+use Rattle.ftp_text.specs.Fields.{values}
+use Rattle.ftp_text.specs.Spelling.{line_word_text, login_state_words, login_state_text, slot_word_text, command_names, command_word_text, is_from_root, has_key}
 
 -- ---- words
 
@@ -27,13 +27,13 @@ abbrev pub line_words : List LineWord
 line_words = word.Checkpoint ∷ word.Used ∷ word.Record ∷ word.Session ∷ word.Slot ∷ word.Queued ∷ word.Job ∷ []
 
 abbrev pub login_states : List LoginState
-login_states = login.New ∷ login.Pass ∷ login.Out ∷ login.Cmd ∷ []
+login_states = values login_state_words
 
 abbrev pub slot_words : List SlotWord
 slot_words = word.Waits ∷ word.Link ∷ []
 
 abbrev pub command_words : List CommandWord
-command_words = command_word.Retr ∷ command_word.Stor ∷ command_word.Appe ∷ command_word.List ∷ command_word.Nlst ∷ command_word.Mlsd ∷ []
+command_words = values command_names
 
 -- ---- ways to read
 

@@ -1,13 +1,15 @@
 //! Reading the actions of an entry.
 
 ghost use Rattle.std.specs.Prelude.{◌≡◌};
-ghost use Rattle.ftp_text.specs.Reading.{Gives, find_word, by_word};
-ghost use Rattle.ftp_text.specs.Printing.{delivered_text};
-ghost use Rattle.ftp_text.specs.ActionReading.{action_word_text, action_words, deliveries, completed_at, start_at, reply_at, action_behind, action_at};
+ghost use Rattle.ftp_text.specs.Reading.{Gives, by_word};
+ghost use Rattle.ftp_text.specs.ActionReading.{action_word_text, action_words, completed_at, start_at, reply_at, action_behind, action_at};
 
 use crate::fault::LineFault;
-use crate::field::{fields, literal, number, small, text_to_end, ticket, word, word_value};
+use crate::field::{
+    fields, literal, number, reply_code, small, text_to_end, ticket, word, word_value,
+};
 use crate::notice::notify;
+use crate::word::{DELIVERIES, REPLY_CODES};
 use ftp_base::{Reply, ReplyText};
 use ftp_events::Action;
 use ftp_transfer::Ticket;
@@ -47,20 +49,9 @@ fn completed(bytes: &[u8]) -> Result<(Action, &[u8]), LineFault>
     ensures { Gives (λ x. (x.0, x.1.now)) result (completed_at bytes.now) }
 {
     let (session, nr, rest) = ticket(bytes)?;
-    let (word, rest) = word(rest)?;
-    let delivered = delivery_of(word)?;
+    let (delivered, rest) = word_value(&DELIVERIES, rest)?;
     let ticket = Ticket { session, nr };
     Ok((Action::Completed { ticket, delivered }, rest))
-}
-
-fn delivery_of(word: &[u8]) -> Result<bool, LineFault>
-    ensures { Gives (λ x. x) result (find_word delivered_text deliveries word.now) }
-{
-    match word {
-        b"delivered" => Ok(true),
-        b"lost" => Ok(false),
-        _ => Err(LineFault::Bad),
-    }
 }
 
 #[tactic(auto, unfolding(crate::specs::ActionReading::start_at))]
@@ -79,7 +70,7 @@ fn reply(alloc: Global, bytes: &[u8]) -> Result<(Action, &[u8]), LineFault>
 {
     let (session, rest) = number(bytes)?;
     let (delay, rest) = small(4_294_967_296, rest)?;
-    let (code, rest) = word_value(rest)?;
+    let (code, rest) = reply_code(&REPLY_CODES, rest)?;
     let (msg, rest) = text_to_end(alloc, rest)?;
     let msg = ReplyText::from_bytes(msg);
     let action = Action::Reply {

@@ -1,84 +1,18 @@
 //! Reading the answer of an entry.
 
 ghost use Rattle.std.specs.Prelude.{◌≡◌};
-ghost use Rattle.ftp_text.specs.Reading.{Gives, by_word};
+ghost use Rattle.ftp_text.specs.Reading.{Gives, by_word, find_word};
 ghost use Rattle.ftp_text.specs.Printing.{result_text};
-ghost use Rattle.ftp_text.specs.LogLines.{answer_word_text, maybe_fault_text};
-ghost use Rattle.ftp_text.specs.AnswerReading.{answer_words, results, maybe_faults, has_letter, header_at, outcome_at, answer_behind, answer_at};
+ghost use Rattle.ftp_text.specs.LogLines.{answer_word_text};
+ghost use Rattle.ftp_text.specs.AnswerReading.{answer_words, results, has_letter, header_at, outcome_at, answer_behind, answer_at};
 
 use crate::fault::LineFault;
-use crate::field::{address, fields, literal, number, word, word_value};
-use crate::word::Word;
-use ftp_base::{ErrorKind, LinkFault};
+use crate::field::{address, fields, literal, number, word, word_or_none, word_value};
+use crate::word::{ENDS, FAULTS, KINDS, PROXY_ERRORS};
+use ftp_base::value_named;
 use ftp_events::Answer;
 use ftp_proxy::{ProxyError, ProxyHeader};
 use ftp_transfer::{Completion, Outcome};
-
-const RESULTS: [Completion; 17] = [
-    Completion::Sent,
-    Completion::Written,
-    Completion::Listed,
-    Completion::WriteFailed,
-    Completion::OutOfMemory,
-    Completion::Refused(ErrorKind::TransientFileNotAvailable),
-    Completion::Refused(ErrorKind::PermanentFileNotAvailable),
-    Completion::Refused(ErrorKind::PermanentDirectoryNotAvailable),
-    Completion::Refused(ErrorKind::PermanentDirectoryNotEmpty),
-    Completion::Refused(ErrorKind::PermissionDenied),
-    Completion::Refused(ErrorKind::ConnectionClosed),
-    Completion::Refused(ErrorKind::LocalError),
-    Completion::Refused(ErrorKind::PageTypeUnknown),
-    Completion::Refused(ErrorKind::InsufficientStorageSpaceError),
-    Completion::Refused(ErrorKind::ExceededStorageAllocationError),
-    Completion::Refused(ErrorKind::FileNameNotAllowedError),
-    Completion::Refused(ErrorKind::CommandNotImplemented),
-];
-
-impl Word for Completion {
-    ghost text = { result_text };
-
-    ghost table = { results };
-
-    fn text(self) -> &'static [u8] {
-        match self {
-            Completion::Sent => b"sent",
-            Completion::Written => b"written",
-            Completion::Listed => b"listed",
-            Completion::WriteFailed => b"writefailed",
-            Completion::Refused(kind) => kind.text(),
-            Completion::OutOfMemory => b"memory",
-        }
-    }
-
-    fn table() -> &'static [Completion] {
-        &RESULTS
-    }
-}
-
-const MAYBE_FAULTS: [Option<LinkFault>; 5] = [
-    None,
-    Some(LinkFault::Reset),
-    Some(LinkFault::BrokenPipe),
-    Some(LinkFault::Aborted),
-    Some(LinkFault::Other),
-];
-
-impl Word for Option<LinkFault> {
-    ghost text = { maybe_fault_text };
-
-    ghost table = { maybe_faults };
-
-    fn text(self) -> &'static [u8] {
-        match self {
-            None => b"-",
-            Some(fault) => fault.text(),
-        }
-    }
-
-    fn table() -> &'static [Option<LinkFault>] {
-        &MAYBE_FAULTS
-    }
-}
 
 /// An answer, with the mark before it.
 #[tactic(auto, unfolding(crate::specs::AnswerReading::answer_at, crate::specs::Reading::word_value))]
@@ -103,12 +37,12 @@ fn behind<'a>(word: &[u8], bytes: &'a [u8]) -> Result<(Answer, &'a [u8]), LineFa
 }
 
 // What the header of a proxy says, or why it is none.
-#[tactic(auto, unfolding(crate::specs::AnswerReading::header_at))]
+#[tactic(auto, unfolding(crate::specs::AnswerReading::header_at, crate::specs::Reading::word_value))]
 fn header(bytes: &[u8]) -> Result<(Result<ProxyHeader, ProxyError>, &[u8]), LineFault>
     ensures { Gives (λ x. (x.0, x.1.now)) result (header_at bytes.now) }
 {
     if has_letter(bytes) {
-        return fields!(bytes; error = word_value() => Err(error));
+        return fields!(bytes; error = word_value(&PROXY_ERRORS) => Err(error));
     }
     fields!(bytes; source = address(), destination = address() => Ok(ProxyHeader { source, destination }))
 }
@@ -123,9 +57,24 @@ fn has_letter(bytes: &[u8]) -> bool
     }
 }
 
-#[tactic(auto, unfolding(crate::specs::AnswerReading::outcome_at))]
+#[tactic(auto, unfolding(crate::specs::AnswerReading::outcome_at, crate::specs::Reading::word_value))]
 fn outcome(bytes: &[u8]) -> Result<(Outcome, &[u8]), LineFault>
     ensures { Gives (λ x. (x.0, x.1.now)) result (outcome_at bytes.now) }
 {
-    fields!(bytes; result = word_value(), bytes = number(), fault = word_value() => Outcome { result, bytes, fault })
+    let (word, rest) = word(bytes)?;
+    let result = completion_named(word).ok_or(LineFault::Bad)?;
+    fields!(rest; bytes = number(), fault = word_or_none(b"-", &FAULTS) => Outcome { result, bytes, fault })
+}
+
+// How a transfer ended: a word of its own, or why the storage refused.
+fn completion_named(word: &[u8]) -> Option<Completion>
+    ensures { result ≡ find_word result_text results word.now }
+{
+    match value_named(&ENDS, word) {
+        Some(end) => Some(end),
+        None => {
+            let kind = value_named(&KINDS, word)?;
+            Some(Completion::Refused(kind))
+        }
+    }
 }

@@ -6,8 +6,8 @@ ghost use Rattle.std.specs.Option.{option_map_or};
 ghost use Rattle.ftp_text.specs.Reading.{Gives, is_comma, each_of, list_of, calls_field, call_of, link_call_of};
 
 use crate::fault::LineFault;
-use crate::field::{after, number_here, word};
-use crate::word::find;
+use crate::field::{after, named, number_here, word};
+use crate::word::FAULTS;
 use ftp_base::{FailingCall, LinkFault, Rows, rise};
 use std::alloc::Global;
 
@@ -56,10 +56,8 @@ fn link_call(word: &[u8]) -> Result<(u64, LinkFault), LineFault>
     ensures { Gives (λ x. x) result (link_call_of word.now) }
 {
     let (number, rest) = number_here(word)?;
-    match find(after(b':', rest)?) {
-        Some(fault) => Ok((number, fault)),
-        None => Err(LineFault::Bad),
-    }
+    let fault = named(&FAULTS, after(b':', rest)?)?;
+    Ok((number, fault))
 }
 
 /// The failing calls of a field: a hyphen for none, else calls with commas between them, which rise from 1 on.

@@ -1,14 +1,14 @@
 //! Reading the decision of an entry.
 
 ghost use Rattle.std.specs.Prelude.{◌≡◌};
-ghost use Rattle.ftp_text.specs.Reading.{Gives};
-ghost use Rattle.ftp_text.specs.Printing.{decision_text, lock_text};
-ghost use Rattle.ftp_text.specs.DecisionReading.{heads, locks, lock_and_delay_at, decision_behind, decision_at};
+ghost use Rattle.ftp_text.specs.Printing.{decision_text};
+ghost use Rattle.ftp_text.specs.Reading.{Gives, find_word, word_value};
+ghost use Rattle.ftp_text.specs.DecisionReading.{lock_and_delay_at, decision_behind, decision_at};
 
 use crate::fault::LineFault;
-use crate::field::{fields, literal, number, port, small, ticket, word_value};
+use crate::field::{fields, literal, number, port, small, ticket, word, word_or_none, word_value};
 use crate::printing::decision_text;
-use crate::word::Word;
+use crate::word::{KINDS, LOCKS, PROXY_ERRORS};
 use ftp_base::{ErrorKind, LockState};
 use ftp_events::Decision;
 use ftp_proxy::ProxyError;
@@ -69,61 +69,42 @@ const HEADS: [Decision; 46] = [
     Decision::Stopped,
 ];
 
-impl Word for Decision {
-    ghost text = { decision_text };
-
-    ghost table = { heads };
-
-    fn text(self) -> &'static [u8] {
-        decision_text(self)
-    }
-
-    fn table() -> &'static [Decision] {
-        &HEADS
-    }
-}
-
-const LOCKS: [Option<LockState>; 3] = [
-    None,
-    Some(LockState::MaxFailuresReached),
-    Some(LockState::AlreadyLocked),
-];
-
-impl Word for Option<LockState> {
-    ghost text = { lock_text };
-
-    ghost table = { locks };
-
-    fn text(self) -> &'static [u8] {
-        match self {
-            None => b"none",
-            Some(LockState::MaxFailuresReached) => b"reached",
-            Some(LockState::AlreadyLocked) => b"locked",
-        }
-    }
-
-    fn table() -> &'static [Option<LockState>] {
-        &LOCKS
-    }
-}
-
 /// A decision, with the mark before it.
 #[tactic(auto, unfolding(crate::specs::DecisionReading::decision_at))]
 pub fn decision(bytes: &[u8]) -> Result<(Decision, &[u8]), LineFault>
     ensures { Gives (λ x. (x.0, x.1.now)) result (decision_at bytes.now) }
 {
     let rest = literal(b"=", bytes)?;
-    let (head, rest) = word_value(rest)?;
+    let (head, rest) = head_in(&HEADS, rest)?;
     behind(head, rest)
 }
 
+// The decision of the table that a word names.
+#[tactic(auto, unfolding(crate::specs::Reading::word_value))]
+fn head_in<'a>(table: &[Decision], bytes: &'a [u8]) -> Result<(Decision, &'a [u8]), LineFault>
+    ensures { Gives (λ x. (x.0, x.1.now)) result (word_value decision_text table.now bytes.now) }
+{
+    let (word, rest) = word(bytes)?;
+    match named(table, word) {
+        Some(head) => Ok((head, rest)),
+        None => Err(LineFault::Bad),
+    }
+}
+
+fn named(table: &[Decision], word: &[u8]) -> Option<Decision>
+    ensures { result ≡ find_word decision_text table.now word.now }
+{
+    table.iter().copied().find(|d| decision_text(*d) == word)
+}
+
 // The decision of this name with the fields that are spelled behind it.
+#[tactic(auto, unfolding(crate::specs::Reading::word_value))]
 fn behind(head: Decision, bytes: &[u8]) -> Result<(Decision, &[u8]), LineFault>
     ensures { Gives (λ x. (x.0, x.1.now)) result (decision_behind head bytes.now) }
 {
     match head {
         Decision::HeaderFault(_) =>
-            fields!(bytes; error = word_value() => Decision::HeaderFault(error)),
+            fields!(bytes; error = word_value(&PROXY_ERRORS) => Decision::HeaderFault(error)),
         Decision::Attached { .. } =>
             fields!(bytes; session = number() => Decision::Attached { session }),
         Decision::LoginFailed { .. } =>
@@ -135,14 +116,15 @@ fn behind(head: Decision, bytes: &[u8]) -> Result<(Decision, &[u8]), LineFault>
             Ok((Decision::Queued { ticket }, rest))
         }
         Decision::CwdRefused(_) =>
-            fields!(bytes; kind = word_value() => Decision::CwdRefused(kind)),
+            fields!(bytes; kind = word_value(&KINDS) => Decision::CwdRefused(kind)),
         _ => Ok((head, bytes)),
     }
 }
 
 // How a failed login stands with the lock, and after how long it is answered.
+#[tactic(auto, unfolding(crate::specs::Reading::word_value))]
 fn lock_and_delay(bytes: &[u8]) -> Result<((Option<LockState>, u32), &[u8]), LineFault>
     ensures { Gives (λ x. (x.0, x.1.now)) result (lock_and_delay_at bytes.now) }
 {
-    fields!(bytes; lock = word_value(), delay = small(4_294_967_296) => (lock, delay as u32))
+    fields!(bytes; lock = word_or_none(b"none", &LOCKS), delay = small(4_294_967_296) => (lock, delay as u32))
 }

@@ -9,13 +9,14 @@ ghost use Rattle.ftp_text.specs.Forms.{Text, MaybeText, ◌▸◌, Number, all_r
 ghost use Rattle.ftp_text.specs.declared.event_word.EventWord.TheVariants as word;
 ghost use Rattle.ftp_text.specs.EventReading.{fields_at, event_of};
 
-use crate::event_word::EventWord;
+use crate::event_word::{EVENT_WORDS, EventWord};
 use crate::fault::LineFault;
 use crate::field::{
     address, fields, hex_word, number, number_here, optional_dotted, optional_number,
-    optional_port, optional_text, port, text_to_end, ticket, word_value,
+    optional_port, optional_text, port, text_to_end, ticket, word_or_none, word_value,
 };
 use crate::message::message_to_end;
+use crate::word::{ANSWERS, KINDS};
 use ftp_base::{Bytes, DataChanCmd};
 use ftp_events::{EventKind, HubEvent};
 use ftp_transfer::Ticket;
@@ -43,12 +44,12 @@ pub fn read_event(alloc: Global, line: &[u8]) -> Result<HubEvent, LineFault>
     event(alloc, line)
 }
 
-#[tactic(auto, unfolding(crate::specs::EventReading::event_of))]
+#[tactic(auto, unfolding(crate::specs::EventReading::event_of, crate::specs::Reading::word_value))]
 fn event(alloc: Global, line: &[u8]) -> Result<HubEvent, LineFault>
     ensures { Gives (λ e. e) result (event_of line.now) }
 {
     let (at, rest) = number_here(line)?;
-    let (word, rest) = word_value(rest)?;
+    let (word, rest) = word_value(&EVENT_WORDS, rest)?;
     let (kind, rest) = event_kind(alloc, word, rest)?;
     if !rest.is_empty() {
         return Err(LineFault::Bad);
@@ -154,11 +155,11 @@ fn accepted(bytes: &[u8]) -> Result<(EventKind, &[u8]), LineFault>
         => EventKind::Accepted { session, number, raw })
 }
 
-#[tactic(auto, unfolding(crate::specs::EventReading::read_as))]
+#[tactic(auto, unfolding(crate::specs::EventReading::read_as, crate::specs::Reading::word_value))]
 fn auth(bytes: &[u8]) -> Result<(EventKind, &[u8]), LineFault>
     ensures { Gives (λ x. (x.0, x.1.now)) result (fields_at word.Auth bytes.now) }
 {
-    fields!(bytes; session = number(), answer = word_value() => EventKind::AuthDone { session, answer })
+    fields!(bytes; session = number(), answer = word_value(&ANSWERS) => EventKind::AuthDone { session, answer })
 }
 
 #[tactic(auto, unfolding(crate::specs::EventReading::read_as))]
@@ -191,11 +192,11 @@ fn rest(bytes: &[u8]) -> Result<(EventKind, &[u8]), LineFault>
     fields!(bytes; session = number(), offset = number() => EventKind::Rest { session, offset })
 }
 
-#[tactic(auto, unfolding(crate::specs::EventReading::read_as))]
+#[tactic(auto, unfolding(crate::specs::EventReading::read_as, crate::specs::Reading::word_value))]
 fn cwd(alloc: Global, bytes: &[u8]) -> Result<(EventKind, &[u8]), LineFault>
     ensures { Gives (λ x. (x.0, x.1.now)) result (fields_at word.Cwd bytes.now) }
 {
-    fields!(bytes; session = number(), refusal = word_value(), path = text_to_end(alloc)
+    fields!(bytes; session = number(), refusal = word_or_none(b"ok", &KINDS), path = text_to_end(alloc)
         => EventKind::Cwd { session, path, refusal })
 }
 

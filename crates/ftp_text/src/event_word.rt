@@ -1,9 +1,7 @@
 //! The words of events.
 
+ghost use Rattle.std.specs.Prelude.{◌≡◌};
 ghost use Rattle.ftp_text.specs.Events.{event_word_text};
-ghost use Rattle.ftp_text.specs.EventReading.{event_words};
-
-use crate::word::Word;
 
 /// The word of a kind of event.
 #[derive(Clone, Copy, Debug, PartialEq, Eq)]
@@ -39,78 +37,44 @@ pub enum EventWord {
     Shutdown,
 }
 
-const EVENT_WORDS: [EventWord; 29] = [
-    EventWord::Connect,
-    EventWord::Proxied,
-    EventWord::Data,
-    EventWord::Accepted,
-    EventWord::User,
-    EventWord::Pass,
-    EventWord::Auth,
-    EventWord::Pasv,
-    EventWord::Port,
-    EventWord::Retr,
-    EventWord::Stor,
-    EventWord::Appe,
-    EventWord::List,
-    EventWord::Nlst,
-    EventWord::Mlsd,
-    EventWord::Stou,
-    EventWord::Rest,
-    EventWord::Cwd,
-    EventWord::Closed,
-    EventWord::Quit,
-    EventWord::Slot,
-    EventWord::End,
-    EventWord::Piece,
-    EventWord::Sweep,
-    EventWord::Abor,
-    EventWord::Internal,
-    EventWord::Idle,
-    EventWord::Scavenge,
-    EventWord::Shutdown,
+// In the order of the words.
+pub(crate) const EVENT_WORDS: [(&[u8], EventWord); 29] = [
+    (b"connect", EventWord::Connect),
+    (b"proxied", EventWord::Proxied),
+    (b"data", EventWord::Data),
+    (b"accepted", EventWord::Accepted),
+    (b"user", EventWord::User),
+    (b"pass", EventWord::Pass),
+    (b"auth", EventWord::Auth),
+    (b"pasv", EventWord::Pasv),
+    (b"port", EventWord::Port),
+    (b"retr", EventWord::Retr),
+    (b"stor", EventWord::Stor),
+    (b"appe", EventWord::Appe),
+    (b"list", EventWord::List),
+    (b"nlst", EventWord::Nlst),
+    (b"mlsd", EventWord::Mlsd),
+    (b"stou", EventWord::Stou),
+    (b"rest", EventWord::Rest),
+    (b"cwd", EventWord::Cwd),
+    (b"closed", EventWord::Closed),
+    (b"quit", EventWord::Quit),
+    (b"slot", EventWord::Slot),
+    (b"end", EventWord::End),
+    (b"piece", EventWord::Piece),
+    (b"sweep", EventWord::Sweep),
+    (b"abor", EventWord::Abor),
+    (b"internal", EventWord::Internal),
+    (b"idle", EventWord::Idle),
+    (b"scavenge", EventWord::Scavenge),
+    (b"shutdown", EventWord::Shutdown),
 ];
 
-impl Word for EventWord {
-    ghost text = { event_word_text };
-
-    ghost table = { event_words };
-
-    fn text(self) -> &'static [u8] {
-        match self {
-            EventWord::Connect => b"connect",
-            EventWord::Proxied => b"proxied",
-            EventWord::Data => b"data",
-            EventWord::Accepted => b"accepted",
-            EventWord::User => b"user",
-            EventWord::Pass => b"pass",
-            EventWord::Auth => b"auth",
-            EventWord::Pasv => b"pasv",
-            EventWord::Port => b"port",
-            EventWord::Retr => b"retr",
-            EventWord::Stor => b"stor",
-            EventWord::Appe => b"appe",
-            EventWord::List => b"list",
-            EventWord::Nlst => b"nlst",
-            EventWord::Mlsd => b"mlsd",
-            EventWord::Stou => b"stou",
-            EventWord::Rest => b"rest",
-            EventWord::Cwd => b"cwd",
-            EventWord::Closed => b"closed",
-            EventWord::Quit => b"quit",
-            EventWord::Slot => b"slot",
-            EventWord::End => b"end",
-            EventWord::Piece => b"piece",
-            EventWord::Sweep => b"sweep",
-            EventWord::Abor => b"abor",
-            EventWord::Internal => b"internal",
-            EventWord::Idle => b"idle",
-            EventWord::Scavenge => b"scavenge",
-            EventWord::Shutdown => b"shutdown",
-        }
-    }
-
-    fn table() -> &'static [EventWord] {
-        &EVENT_WORDS
+impl EventWord {
+    /// The word as it is spelled.
+    pub(crate) fn text(self) -> &'static [u8]
+        ensures { result.now ≡ event_word_text self }
+    {
+        EVENT_WORDS[self as usize].0
     }
 }

@@ -8,7 +8,6 @@ ghost use Rattle.ftp_text.specs.Events.{is_short, word_field, kind_fields, event
 
 use crate::event_word::EventWord;
 use crate::message::put_message;
-use crate::word::Word;
 use crate::writing::{
     put_address, put_answer, put_decimal, put_field, put_hex_word, put_number, put_optional_dotted,
     put_optional_number, put_optional_port, put_optional_text, put_refusal, put_text_field,

@@ -5,12 +5,15 @@ ghost use Rattle.ftp_base.specs.declared.net.IpAddr.TheVariants.{V6};
 ghost use Rattle.std.specs.List.{prefix_len, position_or_len};
 ghost use Rattle.std.specs.Char.{is_ascii_digit};
 ghost use Rattle.std.specs.Str.Parse.{AllDigits, digits_value};
-ghost use Rattle.ftp_text.specs.Reading.{Gives, made, behind, before_text, after, literal_at, is_space, numeral, number_at, small_at, dotted_at, port_at_colon, ipv4_at, hex_numeral, hex_word_at, ipv6_at, address_at, ip_at, number_field, small_field, address_field, ip_field, optional_field, text_field, optional_text_field, ticket_field, hex_word_field, word_at, hex_field, word_value, last_value};
+ghost use Rattle.ftp_text.specs.Reading.{Gives, made, behind, before_text, after, literal_at, is_space, numeral, number_at, small_at, dotted_at, port_at_colon, ipv4_at, hex_numeral, hex_word_at, ipv6_at, address_at, ip_at, number_field, small_field, address_field, ip_field, optional_field, text_field, optional_text_field, ticket_field, hex_word_field, word_at, hex_field, word_as, word_value, named_or_none, last_value};
+ghost use Rattle.ftp_base.specs.Reply.{code_text};
+ghost use Rattle.std.specs.Map.{lookup};
+ghost use Rattle.std.specs.Str.{bytes_eq};
 
 use crate::fault::LineFault;
 use crate::text::{self, nibble, whole_text};
-use crate::word::{Word, find};
-use ftp_base::{Bytes, IpAddr, SocketAddr};
+use crate::word::{code_named, value_or_none};
+use ftp_base::{Bytes, IpAddr, ReplyCode, SocketAddr, value_named};
 use std::alloc::Global;
 
 // Reads fields, each behind the one before it, and gives what is made of them, with the bytes behind the last.
@@ -405,18 +408,55 @@ pub(crate) fn whole<V: Drop>(read: (V, &[u8])) -> Result<V, LineFault>
     }
 }
 
-/// The value that a word of its table spells.
+/// The value of a table that the whole word spells.
+pub(crate) fn named<V: Copy>(table: &[(&[u8], V)], word: &[u8]) -> Result<V, LineFault>
+    ensures { Gives (λ x. x) result (lookup (λ name. bytes_eq name.now word.now) table.now) }
+{
+    value_named(table, word).ok_or(LineFault::Bad)
+}
+
+/// The value that a word of the table spells.
 ///
 /// # Proved
 ///
 /// - A word is read exactly where it is one of its table.
-#[tactic(auto, unfolding(crate::specs::Reading::word_value))]
-pub fn word_value<W: Word>(bytes: &[u8]) -> Result<(W, &[u8]), LineFault>
-    ensures { Gives (λ x. (x.0, x.1.now)) result (word_value W.text W.table bytes.now) }
+pub fn word_value<'a, V: Copy>(
+    table: &[(&[u8], V)],
+    bytes: &'a [u8],
+) -> Result<(V, &'a [u8]), LineFault>
+    ensures { Gives (λ x. (x.0, x.1.now)) result (word_as (λ word. lookup (λ name. bytes_eq name.now word) table.now) bytes.now) }
 {
-    let (text, rest) = word(bytes)?;
-    match find(text) {
-        Some(found) => Ok((found, rest)),
+    let (word, rest) = word(bytes)?;
+    let value = named(table, word)?;
+    Ok((value, rest))
+}
+
+/// The value that a word of the table spells, or the word for none.
+pub(crate) fn word_or_none<'a, V: Copy>(
+    none: &[u8],
+    table: &[(&[u8], V)],
+    bytes: &'a [u8],
+) -> Result<(Option<V>, &'a [u8]), LineFault>
+    ensures { Gives (λ x. (x.0, x.1.now)) result (word_as (named_or_none none.now table.now) bytes.now) }
+{
+    let (word, rest) = word(bytes)?;
+    match value_or_none(none, table, word) {
+        Some(value) => Ok((value, rest)),
+        None => Err(LineFault::Bad),
+    }
+}
+
+/// The code of the table that a word spells.
+#[tactic(auto, unfolding(crate::specs::Reading::word_value))]
+pub(crate) fn reply_code<'a>(
+    table: &[ReplyCode],
+    bytes: &'a [u8],
+) -> Result<(ReplyCode, &'a [u8]), LineFault>
+    ensures { Gives (λ x. (x.0, x.1.now)) result (word_value code_text table.now bytes.now) }
+{
+    let (word, rest) = word(bytes)?;
+    match code_named(table, word) {
+        Some(code) => Ok((code, rest)),
         None => Err(LineFault::Bad),
     }
 }

@@ -31,7 +31,6 @@ mod state_grammar;
 mod state_laws;
 mod state_line;
 mod state_piece;
-mod state_word;
 mod state_writing;
 mod streams;
 mod text;
@@ -59,4 +58,3 @@ pub use state_laws::{
 pub use state_line::{StateLine, read_state_line};
 pub use streams::{Input, Output};
 pub use text::whole_text;
-pub use word::Word;

@@ -9,7 +9,8 @@ ghost use Rattle.ftp_text.specs.Reading.{Gives, by_word};
 ghost use Rattle.ftp_text.specs.Message.{message_word_text, two_paths, code_and_text, message_fields, words_with_fields, message_words, two_paths_at, message_behind, message_at};
 
 use crate::fault::LineFault;
-use crate::field::{fields, number, text_to_end, word, word_value};
+use crate::field::{fields, number, reply_code, text_to_end, word, word_value};
+use crate::word::{KINDS, REPLY_CODES};
 use crate::writing::{put_error_kind, put_field, put_number, put_text, put_text_field};
 use ftp_base::{Bytes, ControlChanMsg, Reply, ReplyCode, ReplyText};
 use std::alloc::{AllocError, Global};
@@ -56,7 +57,7 @@ fn with_fields<'a>(
         b"made" =>
             fields!(bytes; path = text_to_end(alloc) => ControlChanMsg::MkDirSuccess { path }),
         b"renamed" => renamed(alloc, bytes),
-        b"kind" => fields!(bytes; kind = word_value() => ControlChanMsg::StorageError(kind)),
+        b"kind" => fields!(bytes; kind = word_value(&KINDS) => ControlChanMsg::StorageError(kind)),
         b"reply" => given_reply(alloc, bytes),
         _ => Err(LineFault::Bad),
     }
@@ -88,7 +89,7 @@ fn paths_to_end(alloc: Global, bytes: &[u8]) -> Result<((Bytes, Bytes), &[u8]), 
 fn given_reply(alloc: Global, bytes: &[u8]) -> Result<(ControlChanMsg, &[u8]), LineFault>
     ensures { Gives (λ x. (x.0, x.1.now)) result (message_behind word.AsItIs bytes.now) }
 {
-    let (code, rest) = word_value(bytes)?;
+    let (code, rest) = reply_code(&REPLY_CODES, bytes)?;
     let (msg, rest) = text_to_end(alloc, rest)?;
     let msg = ReplyText::from_bytes(msg);
     let reply = Reply::CodeAndMsg { code, msg };

@@ -1,12 +1,13 @@
 //! Reading a notification.
 
 ghost use Rattle.std.specs.Prelude.{◌≡◌, Some};
-ghost use Rattle.ftp_text.specs.Reading.{Gives, find_word};
-ghost use Rattle.ftp_text.specs.ActionReading.{notice_word_text, notice_words, has_bytes, has_path, has_two, suits, notice_with, about_at, told_by, notify_at};
+ghost use Rattle.ftp_text.specs.Reading.{Gives};
+ghost use Rattle.ftp_text.specs.ActionReading.{has_bytes, has_path, has_two, suits, notice_with, about_at, told_by, notify_at};
 
 use crate::fault::LineFault;
-use crate::field::{number, text_to_end, word};
+use crate::field::{number, text_to_end, word_value};
 use crate::trace::trace;
+use crate::word::NOTICE_WORDS;
 use ftp_base::{Bytes, DataEvent, EventMeta, Notice, PresenceEvent, TraceId};
 use ftp_events::Action;
 use std::alloc::Global;
@@ -75,8 +76,7 @@ fn before_text(alloc: Global, bytes: &[u8]) -> Result<(About, &[u8]), LineFault>
     let (session, rest) = number(bytes)?;
     let (place, rest) = number(rest)?;
     let (trace, rest) = trace(alloc, rest)?;
-    let (word, rest) = word(rest)?;
-    let word = notice_word(word)?;
+    let (word, rest) = word_value(&NOTICE_WORDS, rest)?;
     let (bytes, rest) = number(rest)?;
     let (user, rest) = number(rest)?;
     let (path, rest) = number(rest)?;
@@ -90,22 +90,6 @@ fn before_text(alloc: Global, bytes: &[u8]) -> Result<(About, &[u8]), LineFault>
         path,
     };
     Ok((about, rest))
-}
-
-fn notice_word(word: &[u8]) -> Result<NoticeWord, LineFault>
-    ensures { Gives (λ x. x) result (find_word notice_word_text notice_words word.now) }
-{
-    match word {
-        b"login" => Ok(NoticeWord::Login),
-        b"logout" => Ok(NoticeWord::Logout),
-        b"got" => Ok(NoticeWord::Got),
-        b"put" => Ok(NoticeWord::Put),
-        b"deleted" => Ok(NoticeWord::Deleted),
-        b"madedir" => Ok(NoticeWord::MadeDir),
-        b"removeddir" => Ok(NoticeWord::RemovedDir),
-        b"renamed" => Ok(NoticeWord::Renamed),
-        _ => Err(LineFault::Bad),
-    }
 }
 
 // The notification with this text.

@@ -1,13 +1,13 @@
 //! Reading the options.
 
 ghost use Rattle.std.specs.Prelude.{◌≡◌};
-ghost use Rattle.ftp_text.specs.Reading.{Gives, find_word};
-ghost use Rattle.ftp_text.specs.Options.{active_text, block_text, restart_text};
-ghost use Rattle.ftp_text.specs.OptionsReading.{mode_of, listening_at, host_of, actives, blocks, part_at, policy_of, lockout_of, restarts, rules_at};
+ghost use Rattle.ftp_text.specs.Reading.{Gives};
+ghost use Rattle.ftp_text.specs.OptionsReading.{mode_of, listening_at, host_of, part_at, policy_of, lockout_of, rules_at};
 
 use crate::fault::LineFault;
 use crate::field::{self, literal};
 use crate::text::whole_text;
+use crate::word::{ACTIVES, BLOCKS, RESTARTS};
 use ftp_options::{
     ActivePassiveMode, FailedLoginsBlock, FailedLoginsPolicy, ListenerMode, PassiveHost,
 };
@@ -62,13 +62,11 @@ pub fn rules(alloc: Global, bytes: &[u8]) -> Result<(Rules, &[u8]), LineFault>
 {
     let (word, rest) = field::word(bytes)?;
     let host = host_of(alloc, word)?;
-    let (word, rest) = field::word(rest)?;
-    let active = active_of(word)?;
+    let (active, rest) = field::word_value(&ACTIVES, rest)?;
     let (idle, rest) = field::small(4294967296, rest)?;
     let (word, rest) = field::word(rest)?;
     let lockout = lockout_of(word)?;
-    let (word, rest) = field::word(rest)?;
-    let restart = restart_of(word)?;
+    let (restart, rest) = field::word_value(&RESTARTS, rest)?;
     Ok(((host, (active, (idle as u32, (lockout, restart)))), rest))
 }
 
@@ -95,17 +93,6 @@ fn host_of(alloc: Global, word: &[u8]) -> Result<PassiveHost, LineFault>
     }
 }
 
-fn active_of(word: &[u8]) -> Result<ActivePassiveMode, LineFault>
-    ensures { Gives (λ x. x) result (find_word active_text actives word.now) }
-{
-    match word {
-        b"passive" => Ok(ActivePassiveMode::PassiveOnly),
-        b"active" => Ok(ActivePassiveMode::ActiveOnly),
-        b"both" => Ok(ActivePassiveMode::ActiveAndPassive),
-        _ => Err(LineFault::Bad),
-    }
-}
-
 #[tactic(auto, unfolding(crate::specs::OptionsReading::lockout_of))]
 fn lockout_of(word: &[u8]) -> Result<Option<FailedLoginsPolicy>, LineFault>
     ensures { Gives (λ x. x) result (lockout_of word.now) }
@@ -123,7 +110,7 @@ fn policy_of(word: &[u8]) -> Result<FailedLoginsPolicy, LineFault>
 {
     let (attempts, rest) = part(word)?;
     let (seconds, rest) = part(rest)?;
-    let block = block_of(rest)?;
+    let block = field::named(&BLOCKS, rest)?;
     Ok(FailedLoginsPolicy::new(attempts, 1000 * u64::from(seconds), block))
 }
 
@@ -134,25 +121,4 @@ fn part(bytes: &[u8]) -> Result<(u32, &[u8]), LineFault>
     let (n, rest) = field::small_here(4294967296, bytes)?;
     let rest = literal(b":", rest)?;
     Ok((n as u32, rest))
-}
-
-fn block_of(word: &[u8]) -> Result<FailedLoginsBlock, LineFault>
-    ensures { Gives (λ x. x) result (find_word block_text blocks word.now) }
-{
-    match word {
-        b"both" => Ok(FailedLoginsBlock::UserAndIP),
-        b"ip" => Ok(FailedLoginsBlock::IP),
-        b"user" => Ok(FailedLoginsBlock::User),
-        _ => Err(LineFault::Bad),
-    }
-}
-
-fn restart_of(word: &[u8]) -> Result<bool, LineFault>
-    ensures { Gives (λ x. x) result (find_word restart_text restarts word.now) }
-{
-    match word {
-        b"restart" => Ok(true),
-        b"norestart" => Ok(false),
-        _ => Err(LineFault::Bad),
-    }
 }

@@ -5,18 +5,18 @@ ghost use Rattle.std.specs.List.{flat_map};
 ghost use Rattle.ftp_text.specs.Fields.{field, escape};
 ghost use Rattle.ftp_events.specs.declared.action.Action.TheVariants as action;
 ghost use Rattle.ftp_events.specs.declared.event.Answer.TheVariants as answer;
-ghost use Rattle.ftp_text.specs.Printing.{is_of_own, decision_text, decision_fields, decision_line, header_fields, outcome_fields, answer_line, notice_text, notice_bytes, first_path, second_path, notify_fields, reply_fields, delivered_text, action_fields, action_line, entry_lines};
+ghost use Rattle.ftp_text.specs.Printing.{is_of_own, decision_text, decision_fields, decision_line, header_fields, result_text, outcome_fields, answer_line, notice_text, notice_bytes, first_path, second_path, notify_fields, reply_fields, delivered_text, action_fields, action_line, entry_lines};
 
 use crate::event_writing::put_event;
-use crate::word::Word;
+use crate::word::{ENDS, KINDS, LOCKS};
 use crate::writing::{
     put, put_address, put_byte, put_error_kind, put_field, put_number, put_optional_fault,
-    put_proxy_error, put_text, put_text_field, put_ticket, put_trace,
+    put_proxy_error, put_text, put_text_field, put_ticket, put_trace, put_word, put_word_or_none,
 };
 use ftp_base::{DataEvent, EventMeta, Notice, PresenceEvent, Reply};
 use ftp_events::{Action, Answer, Decision, Entry};
 use ftp_proxy::{ProxyError, ProxyHeader};
-use ftp_transfer::{Outcome, Ticket};
+use ftp_transfer::{Completion, Outcome, Ticket};
 use std::alloc::AllocError;
 
 /// Writes the lines of an entry at the end of the buffer. After an error the buffer is thrown away.
@@ -88,9 +88,19 @@ fn put_moved(out: &mut Vec<u8>, bytes: u64) -> Result<(), AllocError>
 fn put_outcome(out: &mut Vec<u8>, outcome: Outcome) -> Result<(), AllocError>
     ensures { OnOk result (out.new.items ≡ out.old.items ++ outcome_fields outcome) }
 {
-    put_field(out, outcome.result.text())?;
+    put_completion(out, outcome.result)?;
     put_number(out, outcome.bytes)?;
     put_optional_fault(out, outcome.fault)
+}
+
+// How a transfer ended: a word of its own, or why the storage refused.
+fn put_completion(out: &mut Vec<u8>, completion: Completion) -> Result<(), AllocError>
+    ensures { OnOk result (out.new.items ≡ out.old.items ++ field (result_text completion)) }
+{
+    match completion {
+        Completion::Refused(kind) => put_word(out, &KINDS, kind),
+        _ => put_word(out, &ENDS, completion),
+    }
 }
 
 fn put_decision(out: &mut Vec<u8>, decision: Decision) -> Result<(), AllocError>
@@ -174,7 +184,7 @@ fn put_decision_fields(out: &mut Vec<u8>, decision: Decision) -> Result<(), Allo
         Decision::HeaderFault(error) => put_proxy_error(out, error),
         Decision::Attached { session } => put_number(out, session),
         Decision::LoginFailed { lock, delay } => {
-            put_field(out, lock.text())?;
+            put_word_or_none(out, b"none", &LOCKS, lock)?;
             put_number(out, u64::from(delay))
         }
         Decision::Granted { port } => put_number(out, u64::from(port)),

@@ -13,6 +13,7 @@ use crate::field::{
 };
 use crate::state_command::{Lengths, command_in, lengths};
 use crate::state_piece::{bit, cut_at, cut_off, is_from_root};
+use crate::word::{COMMAND_WORDS, LOGIN_STATES};
 use ftp_base::{Bytes, IpAddr, SocketAddr};
 use ftp_events::CommandWord;
 use ftp_hub::{JobLine, LoginState, QueuedLine, RecordLine, SessionLine, SlotKind, SlotLine};
@@ -150,11 +151,11 @@ fn opening(bytes: &[u8]) -> Result<(Opening, &[u8]), LineFault>
         => (session, (raw, (local, (client, trace)))))
 }
 
-#[tactic(auto, unfolding(crate::specs::StateLineReading::progress_at))]
+#[tactic(auto, unfolding(crate::specs::StateLineReading::progress_at, crate::specs::Reading::word_value))]
 fn progress(bytes: &[u8]) -> Result<(Progress, &[u8]), LineFault>
     ensures { Gives (λ x. (x.0, x.1.now)) result (progress_at bytes.now) }
 {
-    fields!(bytes; state = word_value(), active = number(), offset = number(), tickets = number(), notices = number()
+    fields!(bytes; state = word_value(&LOGIN_STATES), active = number(), offset = number(), tickets = number(), notices = number()
         => (state, (active, (offset, (tickets, notices)))))
 }
 
@@ -220,11 +221,11 @@ fn slot(bytes: &[u8]) -> Result<(StateLine, &[u8]), LineFault>
         => StateLine::Slot(SlotLine { session, at, what }))
 }
 
-#[tactic(auto, unfolding(crate::specs::StateLineReading::queued_at))]
+#[tactic(auto, unfolding(crate::specs::StateLineReading::queued_at, crate::specs::Reading::word_value))]
 fn queued(alloc: Global, bytes: &[u8]) -> Result<(QueuedLine, &[u8]), LineFault>
     ensures { Gives (λ x. (x.0, x.1.now)) result (queued_at bytes.now) }
 {
-    fields!(bytes; session = number(), nr = number(), offset = number(), word = word_value(), lengths = lengths(),
+    fields!(bytes; session = number(), nr = number(), offset = number(), word = word_value(&COMMAND_WORDS), lengths = lengths(),
         text = text_to_end(alloc)
         => queued_of(alloc, (session, (nr, offset)), word, lengths, text.as_slice())?)
 }
@@ -259,11 +260,11 @@ fn run(bytes: &[u8]) -> Result<(Run, &[u8]), LineFault>
         => (session, (nr, (offset, (done, (marked, link))))))
 }
 
-#[tactic(auto, unfolding(crate::specs::StateLineReading::job_at))]
+#[tactic(auto, unfolding(crate::specs::StateLineReading::job_at, crate::specs::Reading::word_value))]
 fn job(alloc: Global, bytes: &[u8]) -> Result<(JobLine, &[u8]), LineFault>
     ensures { Gives (λ x. (x.0, x.1.now)) result (job_at bytes.now) }
 {
-    fields!(bytes; run = run(), word = word_value(), len = number(), lengths = lengths(), text = text_to_end(alloc)
+    fields!(bytes; run = run(), word = word_value(&COMMAND_WORDS), len = number(), lengths = lengths(), text = text_to_end(alloc)
         => job_of(alloc, run, word, (len, lengths), text.as_slice())?)
 }
 

@@ -7,9 +7,10 @@ ghost use Rattle.ftp_text.specs.Fields.{field, number, escape};
 ghost use Rattle.ftp_text.specs.StateText.{with_feed};
 
 use crate::state_piece::{put_bit, put_length};
-use crate::word::Word;
+use crate::word::{COMMAND_WORDS, LOGIN_STATES};
 use crate::writing::{
     put, put_address, put_byte, put_field, put_ip_field, put_number, put_optional_ip, put_text,
+    put_word,
 };
 use ftp_base::{Bytes, DataChanCmd};
 use ftp_events::CommandWord;
@@ -79,7 +80,7 @@ fn put_opening(out: &mut Vec<u8>, line: &SessionLine) -> Result<(), AllocError>
 fn put_progress(out: &mut Vec<u8>, line: &SessionLine) -> Result<(), AllocError>
     ensures { OnOk result (out.new.items ≡ out.old.items ++ progress_fields line.now) }
 {
-    put_field(out, line.state.text())?;
+    put_word(out, &LOGIN_STATES, line.state)?;
     put_number(out, line.active)?;
     put_number(out, line.offset)?;
     put_number(out, line.tickets)?;
@@ -136,7 +137,7 @@ pub(crate) fn put_slot(out: &mut Vec<u8>, line: SlotLine) -> Result<(), AllocErr
 fn put_command(out: &mut Vec<u8>, command: &DataChanCmd) -> Result<(), AllocError>
     ensures { OnOk result (out.new.items ≡ out.old.items ++ command_field command.now) }
 {
-    put_field(out, CommandWord::of(command).text())
+    put_word(out, &COMMAND_WORDS, CommandWord::of(command))
 }
 
 // Writes how long the options and the argument of a command are.

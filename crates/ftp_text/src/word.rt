@@ -1,83 +1,151 @@
-//! The words that stand for values. A word is found by a search of its table.
+//! The words that stand for values, in tables.
 
-ghost use Rattle.std.specs.Prelude.{◌≡◌, ℕ, List};
+ghost use Rattle.std.specs.Prelude.{◌≡◌, map};
 ghost use Rattle.ftp_base.specs.Reply.{code_text};
-ghost use Rattle.ftp_text.specs.Fields.{answer_text, kind_text, refusal_text, fault_text, proxy_error_text};
-ghost use Rattle.ftp_text.specs.Reading.{find_word, answers, kinds, refusals, faults, proxy_errors};
-ghost use Rattle.ftp_text.specs.Message.{reply_codes};
+ghost use Rattle.ftp_text.specs.Fields.{word_in};
+ghost use Rattle.ftp_text.specs.Reading.{find_word, named_or_none};
 
-use ftp_base::{AuthAnswer, ErrorKind, LinkFault, ReplyCode};
+use crate::notice::NoticeWord;
+use ftp_base::{AuthAnswer, ErrorKind, LinkFault, LockState, ReplyCode, value_named};
+use ftp_events::CommandWord;
+use ftp_hub::LoginState;
+use ftp_options::{ActivePassiveMode, FailedLoginsBlock};
 use ftp_proxy::{ProxyError, ReadError};
+use ftp_transfer::Completion;
 
-/// A value that a word of a table spells.
-pub trait Word: Copy + Drop + 'static {
-    // The word of a value.
-    ghost text: { Self → List ℕ };
-
-    // The values that have a word.
-    ghost table: { List Self };
-
-    fn text(self) -> &'static [u8]
-        ensures { result.now ≡ text self };
-
-    fn table() -> &'static [Self]
-        ensures { result.now ≡ table };
-}
-
-/// The value that the word spells.
-pub fn find<W: Word>(word: &[u8]) -> Option<W>
-    ensures { result ≡ find_word W.text W.table word.now }
+/// The word of the value in the table.
+pub(crate) fn word_in<'a, V: Copy + PartialEq>(table: &[(&'a [u8], V)], value: V) -> &'a [u8]
+    ensures { result.now ≡ word_in V.eq (map (λ row. (row.0.now, row.1)) table.now) value }
 {
-    W::table().iter().copied().find(|w| w.text() == word)
+    match table.iter().find(|row| row.1 == value) {
+        Some(row) => row.0,
+        None => b"",
+    }
 }
 
-const ANSWERS: [AuthAnswer; 5] = [
-    AuthAnswer::Good,
-    AuthAnswer::Disabled,
-    AuthAnswer::NotEntered,
-    AuthAnswer::BadUser,
-    AuthAnswer::Refused,
+/// The value of the word in the table, where one word stands for no value.
+pub(crate) fn value_or_none<V: Copy>(
+    none: &[u8],
+    table: &[(&[u8], V)],
+    word: &[u8],
+) -> Option<Option<V>>
+    ensures { result ≡ named_or_none none.now table.now word.now }
+{
+    if none == word {
+        return Some(None);
+    }
+    match value_named(table, word) {
+        Some(value) => Some(Some(value)),
+        None => None,
+    }
+}
+
+/// The code in the table whose digits are the word.
+pub(crate) fn code_named(table: &[ReplyCode], word: &[u8]) -> Option<ReplyCode>
+    ensures { result ≡ find_word code_text table.now word.now }
+{
+    table.iter().copied().find(|code| code.digits() == word)
+}
+
+pub(crate) const ANSWERS: [(&[u8], AuthAnswer); 5] = [
+    (b"good", AuthAnswer::Good),
+    (b"disabled", AuthAnswer::Disabled),
+    (b"notentered", AuthAnswer::NotEntered),
+    (b"baduser", AuthAnswer::BadUser),
+    (b"refused", AuthAnswer::Refused),
 ];
 
-const KINDS: [ErrorKind; 12] = [
-    ErrorKind::TransientFileNotAvailable,
-    ErrorKind::PermanentFileNotAvailable,
-    ErrorKind::PermanentDirectoryNotAvailable,
-    ErrorKind::PermanentDirectoryNotEmpty,
-    ErrorKind::PermissionDenied,
-    ErrorKind::ConnectionClosed,
-    ErrorKind::LocalError,
-    ErrorKind::PageTypeUnknown,
-    ErrorKind::InsufficientStorageSpaceError,
-    ErrorKind::ExceededStorageAllocationError,
-    ErrorKind::FileNameNotAllowedError,
-    ErrorKind::CommandNotImplemented,
+pub(crate) const KINDS: [(&[u8], ErrorKind); 12] = [
+    (b"transientfile", ErrorKind::TransientFileNotAvailable),
+    (b"permanentfile", ErrorKind::PermanentFileNotAvailable),
+    (b"permanentdir", ErrorKind::PermanentDirectoryNotAvailable),
+    (b"dirnotempty", ErrorKind::PermanentDirectoryNotEmpty),
+    (b"permission", ErrorKind::PermissionDenied),
+    (b"closed", ErrorKind::ConnectionClosed),
+    (b"local", ErrorKind::LocalError),
+    (b"pagetype", ErrorKind::PageTypeUnknown),
+    (b"space", ErrorKind::InsufficientStorageSpaceError),
+    (b"exceeded", ErrorKind::ExceededStorageAllocationError),
+    (b"badname", ErrorKind::FileNameNotAllowedError),
+    (b"notimplemented", ErrorKind::CommandNotImplemented),
 ];
 
-const REFUSALS: [Option<ErrorKind>; 13] = [
-    None,
-    Some(ErrorKind::TransientFileNotAvailable),
-    Some(ErrorKind::PermanentFileNotAvailable),
-    Some(ErrorKind::PermanentDirectoryNotAvailable),
-    Some(ErrorKind::PermanentDirectoryNotEmpty),
-    Some(ErrorKind::PermissionDenied),
-    Some(ErrorKind::ConnectionClosed),
-    Some(ErrorKind::LocalError),
-    Some(ErrorKind::PageTypeUnknown),
-    Some(ErrorKind::InsufficientStorageSpaceError),
-    Some(ErrorKind::ExceededStorageAllocationError),
-    Some(ErrorKind::FileNameNotAllowedError),
-    Some(ErrorKind::CommandNotImplemented),
+pub(crate) const FAULTS: [(&[u8], LinkFault); 4] = [
+    (b"reset", LinkFault::Reset),
+    (b"pipe", LinkFault::BrokenPipe),
+    (b"aborted", LinkFault::Aborted),
+    (b"other", LinkFault::Other),
 ];
 
-const FAULTS: [LinkFault; 4] = [
-    LinkFault::Reset,
-    LinkFault::BrokenPipe,
-    LinkFault::Aborted,
-    LinkFault::Other,
+pub(crate) const PROXY_ERRORS: [(&[u8], ProxyError); 8] = [
+    (b"size", ProxyError::HeaderSize),
+    (b"crlf", ProxyError::CrlfError),
+    (b"notproxy", ProxyError::NotProxyHdr),
+    (b"decode", ProxyError::DecodeError),
+    (b"ipv4", ProxyError::IPv4Required),
+    (b"version", ProxyError::UnsupportedVersion),
+    (b"eof", ProxyError::ReadError(ReadError::UnexpectedEof)),
+    (b"fault", ProxyError::ReadError(ReadError::Fault)),
 ];
 
-const REPLY_CODES: [ReplyCode; 25] = [
+pub(crate) const LOCKS: [(&[u8], LockState); 2] = [
+    (b"reached", LockState::MaxFailuresReached),
+    (b"locked", LockState::AlreadyLocked),
+];
+
+pub(crate) const COMMAND_WORDS: [(&[u8], CommandWord); 6] = [
+    (b"retr", CommandWord::Retr),
+    (b"stor", CommandWord::Stor),
+    (b"appe", CommandWord::Appe),
+    (b"list", CommandWord::List),
+    (b"nlst", CommandWord::Nlst),
+    (b"mlsd", CommandWord::Mlsd),
+];
+
+pub(crate) const LOGIN_STATES: [(&[u8], LoginState); 4] = [
+    (b"new", LoginState::New),
+    (b"pass", LoginState::Pass),
+    (b"out", LoginState::Out),
+    (b"cmd", LoginState::Cmd),
+];
+
+// The ends of transfers that are no refusals.
+pub(crate) const ENDS: [(&[u8], Completion); 5] = [
+    (b"sent", Completion::Sent),
+    (b"written", Completion::Written),
+    (b"listed", Completion::Listed),
+    (b"writefailed", Completion::WriteFailed),
+    (b"memory", Completion::OutOfMemory),
+];
+
+pub(crate) const NOTICE_WORDS: [(&[u8], NoticeWord); 8] = [
+    (b"login", NoticeWord::Login),
+    (b"logout", NoticeWord::Logout),
+    (b"got", NoticeWord::Got),
+    (b"put", NoticeWord::Put),
+    (b"deleted", NoticeWord::Deleted),
+    (b"madedir", NoticeWord::MadeDir),
+    (b"removeddir", NoticeWord::RemovedDir),
+    (b"renamed", NoticeWord::Renamed),
+];
+
+pub(crate) const ACTIVES: [(&[u8], ActivePassiveMode); 3] = [
+    (b"passive", ActivePassiveMode::PassiveOnly),
+    (b"active", ActivePassiveMode::ActiveOnly),
+    (b"both", ActivePassiveMode::ActiveAndPassive),
+];
+
+pub(crate) const BLOCKS: [(&[u8], FailedLoginsBlock); 3] = [
+    (b"both", FailedLoginsBlock::UserAndIP),
+    (b"ip", FailedLoginsBlock::IP),
+    (b"user", FailedLoginsBlock::User),
+];
+
+pub(crate) const RESTARTS: [(&[u8], bool); 2] = [(b"restart", true), (b"norestart", false)];
+
+pub(crate) const DELIVERIES: [(&[u8], bool); 2] = [(b"delivered", true), (b"lost", false)];
+
+pub(crate) const REPLY_CODES: [ReplyCode; 25] = [
     ReplyCode::FileStatusOkay,
     ReplyCode::CommandOkay,
     ReplyCode::ServiceReady,
@@ -104,140 +172,3 @@ const REPLY_CODES: [ReplyCode; 25] = [
     ReplyCode::ExceededStorageAllocation,
     ReplyCode::BadFileName,
 ];
-
-const PROXY_ERRORS: [ProxyError; 8] = [
-    ProxyError::HeaderSize,
-    ProxyError::CrlfError,
-    ProxyError::NotProxyHdr,
-    ProxyError::DecodeError,
-    ProxyError::IPv4Required,
-    ProxyError::UnsupportedVersion,
-    ProxyError::ReadError(ReadError::UnexpectedEof),
-    ProxyError::ReadError(ReadError::Fault),
-];
-
-pub fn kind_text(kind: ErrorKind) -> &'static [u8]
-    ensures { result.now ≡ kind_text kind }
-{
-    match kind {
-        ErrorKind::TransientFileNotAvailable => b"transientfile",
-        ErrorKind::PermanentFileNotAvailable => b"permanentfile",
-        ErrorKind::PermanentDirectoryNotAvailable => b"permanentdir",
-        ErrorKind::PermanentDirectoryNotEmpty => b"dirnotempty",
-        ErrorKind::PermissionDenied => b"permission",
-        ErrorKind::ConnectionClosed => b"closed",
-        ErrorKind::LocalError => b"local",
-        ErrorKind::PageTypeUnknown => b"pagetype",
-        ErrorKind::InsufficientStorageSpaceError => b"space",
-        ErrorKind::ExceededStorageAllocationError => b"exceeded",
-        ErrorKind::FileNameNotAllowedError => b"badname",
-        ErrorKind::CommandNotImplemented => b"notimplemented",
-    }
-}
-
-impl Word for AuthAnswer {
-    ghost text = { answer_text };
-
-    ghost table = { answers };
-
-    fn text(self) -> &'static [u8] {
-        match self {
-            AuthAnswer::Good => b"good",
-            AuthAnswer::Disabled => b"disabled",
-            AuthAnswer::NotEntered => b"notentered",
-            AuthAnswer::BadUser => b"baduser",
-            AuthAnswer::Refused => b"refused",
-        }
-    }
-
-    fn table() -> &'static [AuthAnswer] {
-        &ANSWERS
-    }
-}
-
-impl Word for ErrorKind {
-    ghost text = { kind_text };
-
-    ghost table = { kinds };
-
-    fn text(self) -> &'static [u8] {
-        kind_text(self)
-    }
-
-    fn table() -> &'static [ErrorKind] {
-        &KINDS
-    }
-}
-
-impl Word for ReplyCode {
-    ghost text = { code_text };
-
-    ghost table = { reply_codes };
-
-    fn text(self) -> &'static [u8] {
-        self.digits()
-    }
-
-    fn table() -> &'static [ReplyCode] {
-        &REPLY_CODES
-    }
-}
-
-impl Word for Option<ErrorKind> {
-    ghost text = { refusal_text };
-
-    ghost table = { refusals };
-
-    fn text(self) -> &'static [u8] {
-        match self {
-            None => b"ok",
-            Some(kind) => kind_text(kind),
-        }
-    }
-
-    fn table() -> &'static [Option<ErrorKind>] {
-        &REFUSALS
-    }
-}
-
-impl Word for LinkFault {
-    ghost text = { fault_text };
-
-    ghost table = { faults };
-
-    fn text(self) -> &'static [u8] {
-        match self {
-            LinkFault::Reset => b"reset",
-            LinkFault::BrokenPipe => b"pipe",
-            LinkFault::Aborted => b"aborted",
-            LinkFault::Other => b"other",
-        }
-    }
-
-    fn table() -> &'static [LinkFault] {
-        &FAULTS
-    }
-}
-
-impl Word for ProxyError {
-    ghost text = { proxy_error_text };
-
-    ghost table = { proxy_errors };
-
-    fn text(self) -> &'static [u8] {
-        match self {
-            ProxyError::HeaderSize => b"size",
-            ProxyError::CrlfError => b"crlf",
-            ProxyError::NotProxyHdr => b"notproxy",
-            ProxyError::DecodeError => b"decode",
-            ProxyError::IPv4Required => b"ipv4",
-            ProxyError::UnsupportedVersion => b"version",
-            ProxyError::ReadError(ReadError::UnexpectedEof) => b"eof",
-            ProxyError::ReadError(ReadError::Fault) => b"fault",
-        }
-    }
-
-    fn table() -> &'static [ProxyError] {
-        &PROXY_ERRORS
-    }
-}

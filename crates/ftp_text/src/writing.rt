@@ -1,15 +1,15 @@
 //! Writing the fields of a line. What is written stands behind what the buffer holds, and after an error the
 //! buffer is thrown away.
 
-ghost use Rattle.std.specs.Prelude.{◌≡◌, ◌++◌, ◌∷◌, ◌<◌, [], false, OnOk, decimal};
+ghost use Rattle.std.specs.Prelude.{◌≡◌, ◌++◌, ◌∷◌, ◌<◌, [], false, OnOk, decimal, map};
 ghost use Rattle.std.specs.List.{flat_map};
-ghost use Rattle.std.specs.Option.{option_copied};
+ghost use Rattle.std.specs.Option.{option_copied, option_map_or};
 ghost use Rattle.std.specs.Fmt.{digit_glyph, digits};
 ghost use Rattle.ftp_base.specs.Trace.{trace_text};
-ghost use Rattle.ftp_text.specs.Fields.{field, number, hex_byte, hex_digits, hex_text, dotted, ip_text, address_text, escape_byte, escape, optional, optional_text, ticket, answer_text, kind_text, refusal_text, fault_text, proxy_error_text};
+ghost use Rattle.ftp_text.specs.Fields.{field, number, hex_byte, hex_digits, hex_text, dotted, ip_text, address_text, escape_byte, escape, optional, optional_text, ticket, word_in, answer_text, kind_text, refusal_text, fault_text, proxy_error_text};
 
 use crate::text::is_plain;
-use crate::word::{Word, kind_text};
+use crate::word::{ANSWERS, FAULTS, KINDS, PROXY_ERRORS, word_in};
 use ftp_base::{AuthAnswer, Bytes, ErrorKind, IpAddr, LinkFault, SocketAddr};
 use ftp_proxy::ProxyError;
 use itoa::Buffer;
@@ -247,42 +247,65 @@ pub fn put_optional_port(out: &mut Vec<u8>, n: Option<u16>) -> Result<(), AllocE
     put_optional_number(out, n.map(u64::from))
 }
 
+/// Writes a space and the word of the value in the table.
+pub(crate) fn put_word<V: Copy + PartialEq>(
+    out: &mut Vec<u8>,
+    table: &[(&[u8], V)],
+    value: V,
+) -> Result<(), AllocError>
+    ensures { OnOk result (out.new.items ≡ out.old.items ++ field (word_in V.eq (map (λ row. (row.0.now, row.1)) table.now) value)) }
+{
+    put_field(out, word_in(table, value))
+}
+
+/// Writes a space and the word of the value in the table, or the word for none.
+pub(crate) fn put_word_or_none<V: Copy + PartialEq>(
+    out: &mut Vec<u8>,
+    none: &[u8],
+    table: &[(&[u8], V)],
+    value: Option<V>,
+) -> Result<(), AllocError>
+    ensures { OnOk result (out.new.items ≡ out.old.items ++ field (option_map_or (word_in V.eq (map (λ row. (row.0.now, row.1)) table.now)) value none.now)) }
+{
+    match value {
+        None => put_field(out, none),
+        Some(value) => put_word(out, table, value),
+    }
+}
+
 /// Writes a space and what an authenticator says.
 pub fn put_answer(out: &mut Vec<u8>, answer: AuthAnswer) -> Result<(), AllocError>
     ensures { OnOk result (out.new.items ≡ out.old.items ++ field (answer_text answer)) }
 {
-    put_field(out, answer.text())
+    put_word(out, &ANSWERS, answer)
 }
 
 /// Writes a space and why a storage refuses.
 pub fn put_error_kind(out: &mut Vec<u8>, kind: ErrorKind) -> Result<(), AllocError>
     ensures { OnOk result (out.new.items ≡ out.old.items ++ field (kind_text kind)) }
 {
-    put_field(out, kind_text(kind))
+    put_word(out, &KINDS, kind)
 }
 
 /// Writes a space and what a storage says of a call: why it refuses, or `ok`.
 pub fn put_refusal(out: &mut Vec<u8>, refusal: Option<ErrorKind>) -> Result<(), AllocError>
     ensures { OnOk result (out.new.items ≡ out.old.items ++ field (refusal_text refusal)) }
 {
-    put_field(out, refusal.text())
+    put_word_or_none(out, b"ok", &KINDS, refusal)
 }
 
 /// Writes a space and what a link met, or a hyphen for nothing.
 pub fn put_optional_fault(out: &mut Vec<u8>, fault: Option<LinkFault>) -> Result<(), AllocError>
     ensures { OnOk result (out.new.items ≡ out.old.items ++ optional fault_text fault) }
 {
-    match fault {
-        None => put(out, b" -"),
-        Some(fault) => put_field(out, fault.text()),
-    }
+    put_word_or_none(out, b"-", &FAULTS, fault)
 }
 
 /// Writes a space and why the header of a proxy is none.
 pub fn put_proxy_error(out: &mut Vec<u8>, error: ProxyError) -> Result<(), AllocError>
     ensures { OnOk result (out.new.items ≡ out.old.items ++ field (proxy_error_text error)) }
 {
-    put_field(out, error.text())
+    put_word(out, &PROXY_ERRORS, error)
 }
 
 /// Writes a space and a trace id.
