@@ -63,8 +63,7 @@ impl EntryQueue {
         ensures lost { result ≢ Ok true → (self.new.has_lost ≡ true) × ((p : ℕ) → waits_at self.new p ≡ waits_at self.old p) }
         ensures same { (self.new.next ≡ self.old.next) × (self.new.end ≡ self.old.end) × (self.new.most ≡ self.old.most) }
     {
-        let has_room = (self.waiting.len() as u64) < self.most;
-        if self.has_lost || place < self.next || self.waiting.contains_key(&place) || !has_room {
+        if !self.takes(place) {
             self.has_lost = true;
             return Ok(false);
         }
@@ -75,6 +74,16 @@ impl EntryQueue {
                 Err(AllocError)
             }
         }
+    }
+
+    // Says whether an entry at a place is taken in, if memory is left.
+    fn takes(&self, place: u64) -> bool
+        ensures { result ≡ (not self.now.has_lost && (nat_le self.now.next place && (is_none (waits_at self.now place) && nat_lt (waiting_count self.now) self.now.most))) }
+    {
+        !self.has_lost
+            && self.next <= place
+            && !self.waiting.contains_key(&place)
+            && (self.waiting.len() as u64) < self.most
     }
 
     /// An entry that there was no memory for is lost, with all that come later.
