@@ -1,9 +1,7 @@
 -- What is true of a hub with a checkpoint and a tail stays true over a step, and where the tail gives way to a new checkpoint.
-use Rattle.std.proofs.Common.{◌≡◌, refl, sym, ap, ◌∙◌, subst, ℕ, ◌+◌, ◌≤◌, Bool, true, false, ◌<◌, cond, List, [], ◌∷◌, ◌++◌, length, Option, Some, None, arith, ltb-true}
-use Rattle.std.specs.Prelude.{nat_lt, unwrap_or, IsSomeAnd}
-use Rattle.ftp_events.specs.Log.{LogState}
+use Rattle.std.proofs.Common.{◌≡◌, refl, sym, ◌∙◌, subst, ℕ, ◌+◌, ◌≤◌, Bool, true, false, cond, List, [], ◌∷◌, ◌++◌, length, Option, arith, ltb-true}
+use Rattle.std.specs.Prelude.{nat_lt}
 use Rattle.ftp_options.specs.declared.options.Options.{Options}
-use Rattle.ftp_events.specs.declared.action.Action.{Action}
 use Rattle.ftp_events.specs.declared.entry.Entry.{Entry}
 use Rattle.ftp_events.specs.Right.{replies}
 use Rattle.ftp_events.specs.Words.{is_number}
@@ -21,20 +19,19 @@ cut-new o hub log box k = record { base = hub; front = log; stood = k.stands; re
 
 -- memory that is taken changes nothing
 pub cut-ready :
-    {o : Options} {hub new : Hub} {tail now : List Entry} {lent : List Action} {box after : Outbox} →
+    {o : Options} {hub new : Hub} {tail : List Entry} {box after : Outbox} →
     KeepsCut o hub tail box →
     ((log : List Entry) → Stands hub log → Stands new log) → options_of new ≡ options_of hub → count_of new ≡ count_of hub →
-    lent ≡ newest tail → ((s : ℕ) → outbox_in after lent s ≡ outbox_in box lent s) →
-    now ≡ tail → KeepsCut o new now after
-cut-ready {o = o} {new = new} {tail = tail} {after = after} k stands options count is same room =
-    subst (λ l. KeepsCut o new l after) (sym room)
-    (record {
+    ((s : ℕ) → outbox_in after (newest tail) s ≡ outbox_in box (newest tail) s) →
+    KeepsCut o new tail after
+cut-ready {tail = tail} k stands options count same =
+    record {
       base = k.base;
       front = k.front;
       stood = k.stood;
       replay = λ log st. stands (tail ++ log) (k.replay log st);
-      kept = kept-ready k.kept (stands (tail ++ k.front) k.kept.stands) options count is same;
-    })
+      kept = kept-ready k.kept (stands (tail ++ k.front) k.kept.stands) options count same;
+    }
 
 -- a full tail gives way: the hub is the checkpoint from then on
 pub cut-clear :
@@ -91,12 +88,3 @@ cut-bounded tail every some = go (nat_lt (length tail) every) refl
     go : (b : Bool) → nat_lt (length tail) every ≡ b → length (cond b tail []) + 1 ≤ every
     go true h = omega (arith, ltb-true (length tail) every h)
     go false h = omega (arith, some)
-
--- what is left of a tail where a new one takes its place, or none does
-pub cut-entries :
-    (fresh : Option LogState) (now : LogState) (before : List Entry) (b : Bool) → now.entries ≡ before →
-    (b ≡ true → (fresh ≡ None) × (0 < now.room)) → (b ≡ false → IsSomeAnd fresh (λ n. (n.entries ≡ []) × (0 < n.room))) →
-    (unwrap_or fresh now).entries ≡ cond b before []
-cut-entries fresh now before true same here new = ap (λ (f : Option LogState). (unwrap_or f now).entries) (here refl).0 ∙ same
-cut-entries None now before false same here new = absurd (new refl)
-cut-entries (Some n) now before false same here new = (new refl).0

@@ -21,7 +21,7 @@ use Rattle.ftp_hub.specs.Stands.{Stands, count_of, options_of}
 use Rattle.ftp_shared.specs.declared.outbox.Outbox.{Outbox}
 use Rattle.ftp_shared.specs.declared.receipt.Turn.{Turn}
 use Rattle.ftp_shared.specs.Outbox.{IsRest, newest, outbox_after, outbox_in, replies_in, sorted}
-use Rattle.ftp_shared.specs.Keeps.{KeepsLog, Keeps}
+use Rattle.ftp_shared.specs.Keeps.{KeepsLog}
 use Rattle.ftp_shared.specs.Next.{NextTurn}
 
 -- nothing is left of a list behind its end
@@ -86,31 +86,20 @@ kept-step o hub new log actions e box after own k stands options count all kept 
           (rest-step (outbox_in box actions s) (replies log s) (replies_in e.actions s) (is_number own s) (k.rests s));
     }
 
--- memory that is taken keeps it too, where an outbox has sorted in some of the actions
+-- memory that is taken keeps it too
 pub kept-ready :
-    {o : Options} {hub new : Hub} {log : List Entry} {actions lent : List Action} {box after : Outbox} →
+    {o : Options} {hub new : Hub} {log : List Entry} {actions : List Action} {box after : Outbox} →
     KeepsLog o hub log actions box →
     Stands new log → options_of new ≡ options_of hub → count_of new ≡ count_of hub →
-    lent ≡ actions → ((s : ℕ) → outbox_in after lent s ≡ outbox_in box lent s) →
+    ((s : ℕ) → outbox_in after actions s ≡ outbox_in box actions s) →
     KeepsLog o new log actions after
-kept-ready {log = log} {box = box} {after = after} k stands options count is same =
+kept-ready {log = log} k stands options count same =
     record {
       options = options ∙ k.options;
       stands = stands;
       events = count ∙ k.events;
-      rests = λ s.
-          subst (λ xs. IsRest xs (replies log s)) (sym (subst (λ (xs : List Action). outbox_in after xs s ≡ outbox_in box xs s) is (same s))) (k.rests s);
+      rests = λ s. subst (λ xs. IsRest xs (replies log s)) (sym (same s)) (k.rests s);
     }
-
--- so it does of a journal that got room
-pub keeps-ready :
-    {o : Options} {hub new : Hub} {log now : List Entry} {lent : List Action} {box after : Outbox} →
-    Keeps o hub log box →
-    ((log : List Entry) → Stands hub log → Stands new log) → options_of new ≡ options_of hub → count_of new ≡ count_of hub →
-    lent ≡ newest log → ((s : ℕ) → outbox_in after lent s ≡ outbox_in box lent s) →
-    now ≡ log → Keeps o new now after
-keeps-ready {o = o} {new = new} {log = log} {after = after} k stands options count is same room =
-    subst (λ l. Keeps o new l after) (sym room) (kept-ready k (stands log k.stands) options count is same)
 
 -- a hub to which nothing has happened keeps it
 pub kept-new :

@@ -1,12 +1,9 @@
 //! What an append does before and after the step.
 
 ghost use Rattle.std.specs.Prelude.{◌≡◌, ◌-◌, ◌^◌, ◌≤◌, ◌<◌, ◌↔◌, ℕ, [], ◌∷◌, length, nat_lt, true, false, None, List, unwrap_or, IfOk, OnOk, OnErr, IsErrOf, IsSomeAnd, if◌then◌else◌};
-ghost use Rattle.ftp_options.specs.declared.options.Options.{Options};
 ghost use Rattle.ftp_events.specs.declared.entry.Entry.{Entry};
 ghost use Rattle.ftp_hub.specs.Stands.{Stands, count_of, options_of};
 ghost use Rattle.ftp_hub.specs.Twin.{FitsTwin};
-ghost use Rattle.ftp_shared.specs.Cut.{KeepsCut};
-ghost use Rattle.ftp_shared.specs.Keeps.{Keeps};
 ghost use Rattle.ftp_shared.specs.Outbox.{newest, outbox_in, own_session};
 
 use crate::AppendError;
@@ -30,9 +27,11 @@ pub(crate) fn make_ready(
     ensures fits { IfOk result (λ room. FitsTwin room hub.new event.now answer.now) }
     ensures room { OnOk result (0 < journal.new.room) }
     ensures sorted { OnOk result (length (newest journal.old.entries) ≤ outbox.new.next) }
-    ensures keeps { (o : Options) → Keeps o hub.old journal.old.entries outbox.old → Keeps o hub.new journal.new.entries outbox.new }
     ensures journal { journal.new.entries ≡ journal.old.entries }
     ensures outbox { (s : ℕ) → outbox_in outbox.new (newest journal.old.entries) s ≡ outbox_in outbox.old (newest journal.old.entries) s }
+    ensures stands { (log : List Entry) → Stands hub.old log → Stands hub.new log }
+    ensures options { options_of hub.new ≡ options_of hub.old }
+    ensures count { count_of hub.new ≡ count_of hub.old }
 {
     marks.reserve()?;
     outbox.catch_up(newest(journal))?;
@@ -58,7 +57,6 @@ pub(crate) fn ready_cut(
     ensures fits { IfOk result (λ room. FitsTwin room hub.new event.now answer.now) }
     ensures room { OnOk result (0 < tail.new.room) }
     ensures sorted { OnOk result (length (newest tail.old.entries) ≤ outbox.new.next) }
-    ensures keeps { (o : Options) → KeepsCut o hub.old tail.old.entries outbox.old → KeepsCut o hub.new tail.new.entries outbox.new }
     ensures cut { OnOk result (tail.new.entries ≡ (if nat_lt (length tail.old.entries) every then tail.old.entries else [])) }
     ensures same_tail { OnErr result (tail.new.entries ≡ tail.old.entries) }
     ensures outbox { (s : ℕ) → outbox_in outbox.new (newest tail.old.entries) s ≡ outbox_in outbox.old (newest tail.old.entries) s }

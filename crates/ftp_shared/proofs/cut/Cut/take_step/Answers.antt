@@ -9,17 +9,23 @@ use Rattle.ftp_hub.specs.Twin.{started_job}
 use Rattle.ftp_options.specs.declared.options.Options.{Options}
 use Rattle.ftp_shared.specs.Cut.{KeepsCut}
 use Rattle.ftp_shared.specs.Outbox.{newest}
-use Rattle.ftp_shared.proofs.CutLemmas.{cut-bounded, cut-step, newest-at}
+use Rattle.ftp_shared.proofs.CutLemmas.{cut-at, cut-bounded, cut-ready, cut-step, newest-at}
 use Rattle.ftp_shared.proofs.KeepsLemmas.{entry-set, job-set, told-next, turn-next, turn-whole}
 use Rattle.ftp_shared.proofs.cut.Cut.take_step.Goals as goal
 
 -- memory that was taken changes nothing
 pub invariant_of-self : goal.invariant_of-self
-invariant_of-self g c = record {
-  some = c.args.self.now.some;
-  bounded = subst (λ (l : List Entry). length l ≤ c.args.self.now.every) (sym c.in_err-room.ensures.same_tail) c.args.self.now.bounded;
-  kept = ∥∥₁_map c.args.self.now.kept (c.ready_cut.ensures.keeps g.L.Serving.options);
-}
+invariant_of-self g c =
+    let o = g.L.Serving.options in
+    let same = sym c.in_err-room.ensures.same_tail in
+    let ready = c.ready_cut.ensures in
+    record {
+      some = c.args.self.now.some;
+      bounded = subst (λ (l : List Entry). length l ≤ c.args.self.now.every) same c.args.self.now.bounded;
+      kept = ∥∥₁_map c.args.self.now.kept (λ k.
+          subst (λ (l : List Entry). KeepsCut o c.ready_cut.new.hub l c.ready_cut.new.outbox) same
+          (cut-ready k ready.stands ready.options ready.count ready.outbox));
+    }
 
 -- the step keeps all
 pub invariant_of-self-2 : goal.invariant_of-self-2
@@ -27,40 +33,34 @@ invariant_of-self-2 g c =
     let o = g.L.Serving.options in
     let before : List Entry = c.args.self.now.tail.entries in
     let every = c.args.self.now.every in
-    let tail : List Entry = c.ready_cut.new.tail.entries in
     let e = c.step_twin-kept.result.kept in
-    let all : length (newest tail) ≤ c.ready_cut.new.outbox.next =
-    subst (λ (l : List Entry). length (newest l) ≤ c.ready_cut.new.outbox.next) (sym c.in_ok-room.ensures.cut)
-    (newest-at before (nat_lt (length before) every) c.ready_cut.new.outbox.next c.in_ok-room.ensures.sorted)
-    in
-    let one = ap length c.keep.ensures in
-    let two = ap length c.in_ok-room.ensures.cut in
+    let box = c.ready_cut.new.outbox in
+    let ready = c.ready_cut.ensures in
+    let stepped = c.step_twin-kept.ensures in
+    let handed = c.hand-earlier.ensures in
+    let all = c.in_ok-room.ensures.sorted in
+    let tail = c.keep.ensures ∙ ap (λ (l : List Entry). e ∷ l) c.in_ok-room.ensures.cut in
+    let one = ap length tail in
     let few = cut-bounded before every c.args.self.now.some in
     record {
       some = c.args.self.now.some;
-      bounded = omega (arith, one, two, few);
+      bounded = omega (arith, one, few);
       kept = ∥∥₁_map c.args.self.now.kept (λ was.
-          subst (λ (l : List Entry). KeepsCut o c.step_twin-kept.new.self l c.hand-earlier.new.self) (sym c.keep.ensures)
-          (cut-step o c.ready_cut.new.hub c.step_twin-kept.new.self tail e c.ready_cut.new.outbox c.hand-earlier.new.self c.args.own (c.ready_cut.ensures.keeps o was)
-          c.step_twin-kept.ensures.stands c.step_twin-kept.ensures.options c.step_twin-kept.ensures.count all
-          c.hand-earlier.ensures.sorted c.hand-earlier.ensures.next c.hand-earlier.ensures.told));
+          subst (λ (l : List Entry). KeepsCut o c.step_twin-kept.new.self l c.hand-earlier.new.self) (sym tail)
+          (cut-step o c.ready_cut.new.hub c.step_twin-kept.new.self (cond (nat_lt (length before) every) before []) e box c.hand-earlier.new.self c.args.own
+          (cut-at o c.ready_cut.new.hub before box every all (cut-ready was ready.stands ready.options ready.count ready.outbox))
+          stepped.stands stepped.options stepped.count (newest-at before (nat_lt (length before) every) box.next all) handed.sorted handed.next handed.told));
     }
 
 -- the entry is the next one of a right and acted log, and the replies before it are the last
 pub returns-clause-rest : goal.returns-clause-rest
 returns-clause-rest g c =
-    let o = g.L.Serving.options in
     let before : List Entry = c.args.self.now.tail.entries in
-    let tail : List Entry = c.ready_cut.new.tail.entries in
-    let box = c.ready_cut.new.outbox in
-    let all : length (newest tail) ≤ box.next =
-    subst (λ (l : List Entry). length (newest l) ≤ box.next) (sym c.in_ok-room.ensures.cut)
-    (newest-at before (nat_lt (length before) c.args.self.now.every) box.next c.in_ok-room.ensures.sorted)
-    in
+    let ready = c.ready_cut.ensures in
     ∥∥₁_map c.args.self.now.kept (λ was.
-    let k = c.ready_cut.ensures.keeps o was in
-    turn-next o c.ready_cut.new.hub (tail ++ k.front) (newest tail) box c.args.event c.args.answer c.step_twin-kept.result.kept c.args.own _ k.kept
-    all c.step_twin-kept.ensures.due c.step_twin-kept.ensures.told (c.events-place.ensures ∙ k.kept.events) (c.from_vec.ensures ∙ c.hand-earlier.ensures.earlier))
+    let k = cut-ready was ready.stands ready.options ready.count ready.outbox in
+    turn-next g.L.Serving.options c.ready_cut.new.hub (before ++ k.front) (newest before) c.ready_cut.new.outbox c.args.event c.args.answer c.step_twin-kept.result.kept c.args.own _ k.kept
+    c.in_ok-room.ensures.sorted c.step_twin-kept.ensures.due c.step_twin-kept.ensures.told (c.events-place.ensures ∙ k.kept.events) (c.from_vec.ensures ∙ c.hand-earlier.ensures.earlier))
 
 pub returns-clause-next : goal.returns-clause-next
 returns-clause-next g c = ∥∥₁_map (returns-clause-rest g c) (λ t. t.next)
@@ -70,7 +70,7 @@ pub returns-clause-due : goal.returns-clause-due
 returns-clause-due g c log st =
     let o = g.L.Serving.options in
     ∥∥₁_elim c.args.self.now.kept (entry-set c.step_twin-kept.result.told (next_entry o log c.args.event c.args.answer)) (λ was.
-    told-next o c.ready_cut.new.hub log c.args.event c.args.answer c.step_twin-kept.result.kept c.step_twin-kept.result.told (c.ready_cut.ensures.keeps o was).kept.options (c.ready_cut.ensures.stands log st) c.step_twin-kept.ensures.due c.step_twin-kept.ensures.told)
+    told-next o c.ready_cut.new.hub log c.args.event c.args.answer c.step_twin-kept.result.kept c.step_twin-kept.result.told (c.ready_cut.ensures.options ∙ was.kept.options) (c.ready_cut.ensures.stands log st) c.step_twin-kept.ensures.due c.step_twin-kept.ensures.told)
 
 -- and the hub stands for each of them with it
 pub returns-clause-stands : goal.returns-clause-stands
@@ -87,7 +87,7 @@ returns-clause-job g c log st =
     let o = g.L.Serving.options in
     ∥∥₁_elim c.args.self.now.kept (job-set c.share_of.result (started_job o (past_of log) c.step_twin-kept.result.told)) (λ was.
     c.share_of.ensures ∙ c.step_twin-kept.ensures.job log (c.ready_cut.ensures.stands log st)
-    ∙ ap (λ (o : Options). started_job o (past_of log) c.step_twin-kept.result.kept) (c.ready_cut.ensures.keeps o was).kept.options
+    ∙ ap (λ (o : Options). started_job o (past_of log) c.step_twin-kept.result.kept) (c.ready_cut.ensures.options ∙ was.kept.options)
     ∙ ap (started_job o (past_of log)) (sym c.step_twin-kept.ensures.told))
 
 -- the tail has the entry that is told
