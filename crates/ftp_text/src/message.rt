@@ -57,10 +57,17 @@ fn with_fields<'a>(
         b"made" =>
             fields!(bytes; path = text_to_end(alloc) => ControlChanMsg::MkDirSuccess { path }),
         b"renamed" => renamed(alloc, bytes),
-        b"kind" => fields!(bytes; kind = word_value(&KINDS) => ControlChanMsg::StorageError(kind)),
+        b"kind" => of_kind(bytes),
         b"reply" => given_reply(alloc, bytes),
         _ => Err(LineFault::Bad),
     }
+}
+
+#[tactic(auto, unfolding(crate::specs::Reading::word_value))]
+fn of_kind(bytes: &[u8]) -> Result<(ControlChanMsg, &[u8]), LineFault>
+    ensures { Gives (λ x. (x.0, x.1.now)) result (message_behind word.Kind bytes.now) }
+{
+    fields!(bytes; kind = word_value(&KINDS) => ControlChanMsg::StorageError(kind))
 }
 
 fn renamed(alloc: Global, bytes: &[u8]) -> Result<(ControlChanMsg, &[u8]), LineFault>
