@@ -2,12 +2,18 @@
 use Rattle.std.specs.Prelude.{◌≡◌, ℕ, ◌+◌, ◌-◌, ◌^◌, ◌<◌, ◌≤◌, ◌==◌, List, [], ◌∷◌, ◌++◌, codes, Option, unwrap_or, if◌then◌else◌}
 use Rattle.std.specs.List.{flat_map}
 use Rattle.ftp_base.specs.declared.reply.Reply.{Reply}
-use Rattle.ftp_base.specs.Outside.{Writes}
+use Rattle.ftp_base.specs.Outside.{HasRisen, Writes}
 use Rattle.ftp_base.specs.Reply.{encoding}
 use Rattle.ftp_events.specs.declared.action.Action.{Action}
 use Rattle.ftp_events.specs.declared.action.Action.TheVariants as action
 use Rattle.ftp_control.specs.Writing.{WritesFront}
 use Rattle.ftp_shared.specs.Outbox.{replies_in}
+
+-- nothing was read of a connection, and its count of faults rose where a call failed
+pub record OnlyWrites (fails : Type 0) (unread unread_now : Option (List ℕ)) (count_before count_now : ℕ) : Type 0 where
+  pub left : unread_now ≡ unread
+  pub fault_rose : fails → HasRisen count_before count_now
+  pub count : count_before ≤ count_now
 
 -- the line of the greeting
 abbrev pub greeting_line : Option (List ℕ) → List ℕ

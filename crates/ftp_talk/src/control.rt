@@ -5,7 +5,7 @@ ghost use Rattle.ftp_base.specs.declared.fault.Failed.TheVariants.{Fault};
 ghost use Rattle.ftp_base.specs.Outside.{HasRisen, Writes};
 ghost use Rattle.ftp_events.specs.declared.entry.Entry.{Entry};
 ghost use Rattle.ftp_control.specs.Writing.{WritesFront};
-ghost use Rattle.ftp_talk.specs.Saying.{greeting_line};
+ghost use Rattle.ftp_talk.specs.Saying.{greeting_line, OnlyWrites};
 ghost use Rattle.ftp_talk.specs.Ground.{Ground, Start};
 ghost use Rattle.ftp_talk.specs.Speaking.{Knows};
 ghost use Rattle.ftp_talk.specs.Control.{client_of, peer_of, is_opening, is_opened, is_fault, HasOpened, IsUnopened, Serves};
@@ -67,11 +67,9 @@ impl ControlSession {
     fn greet<L: Link>(&mut self, link: &mut L, greeting: &Option<Bytes>) -> Result<(), Failed>
         ensures wrote { OnOk result (Writes (L.sending link.old).sent (L.sending link.new).sent (greeting_line greeting.now)) }
         ensures front { OnErr result (WritesFront (L.sending link.old).sent (L.sending link.new).sent (greeting_line greeting.now)) }
-        ensures left { L.left link.new ≡ L.left link.old }
+        ensures link { OnlyWrites (IsErrOf result Fault) (L.left link.old) (L.left link.new) (L.faults link.old) (L.faults link.new) }
         ensures known { (g : Ground) (h : List Entry) → Knows g self.old h → Knows g self.new h }
         ensures over { self.new.is_over ≡ self.old.is_over }
-        ensures fault_rose { IsErrOf result Fault → HasRisen (L.faults link.old) (L.faults link.new) }
-        ensures count { L.faults link.old ≤ L.faults link.new }
     {
         self.text.clear();
         if put_greeting(&mut self.text, greeting).is_err() {

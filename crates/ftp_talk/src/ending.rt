@@ -3,6 +3,7 @@
 ghost use Rattle.std.specs.Prelude.{◌≡◌, ◌≤◌, ◌++◌, [], ℕ, List, Option, Some, true, false, IfSome, IfNone, OnErr, IsErrOf, ◌⊎◌};
 ghost use Rattle.ftp_base.specs.Outside.{HasRisen};
 ghost use Rattle.ftp_control.specs.ControlLine.{IsLong};
+ghost use Rattle.ftp_talk.specs.Saying.{OnlyWrites};
 ghost use Rattle.ftp_talk.specs.declared.halt.Halt.TheVariants.{Exhausted, Fault};
 ghost use Rattle.ftp_talk.specs.Ground.{Ground};
 ghost use Rattle.ftp_talk.specs.Turns.{Due, LineDue};
@@ -109,22 +110,16 @@ impl ControlSession {
         ensures served { (g : Ground) (hs : List HeardLine) (rest : List ℕ) → IsAbout g D.vouches D.draws_next → g.start.ready ≡ false →
             Standing LineDue g self.old (E.view edge.old) (D.view desk.old) (C.sending control.old).sent hs rest →
             StandsBehind due_at result g self.new (E.view edge.new) (D.view desk.new) (C.sending control.new).sent hs rest }
-        ensures left { C.left control.new ≡ C.left control.old }
-        ensures fault_rose { IsErrOf result Fault → HasRisen (C.faults control.old) (C.faults control.new) }
+        ensures control { OnlyWrites (IsErrOf result Fault) (C.left control.old) (C.left control.new) (C.faults control.old) (C.faults control.new) }
         ensures exhausted { IsErrOf result Exhausted → D.exhausts ≡ true }
-        ensures count { C.faults control.old ≤ C.faults control.new }
     {
-        let kind = EventKind::IdleTick {
-            session: self.session,
-        };
-        let decision = self.take_step(desk, control, edge, kind)?;
+        let session = self.session;
+        let decision = self.take_step(desk, control, edge, EventKind::IdleTick { session })?;
         if is_end(decision) {
             return Ok(Next::Over);
         }
-        let kind = EventKind::SlotTick {
-            session: self.session,
-        };
-        let looked = self.take_step(desk, control, edge, kind)?;
+        let session = self.session;
+        let looked = self.take_step(desk, control, edge, EventKind::SlotTick { session })?;
         Ok(next_of(looked, Next::GoOn))
     }
 
@@ -138,10 +133,8 @@ impl ControlSession {
         ensures served { (g : Ground) (hs : List HeardLine) (rest : List ℕ) → IsAbout g D.vouches D.draws_next → IsLong rest →
             Standing LineDue g self.old (E.view edge.old) (D.view desk.old) (C.sending control.old).sent hs rest →
             StandsBehind due_at result g self.new (E.view edge.new) (D.view desk.new) (C.sending control.new).sent hs rest }
-        ensures left { C.left control.new ≡ C.left control.old }
-        ensures fault_rose { IsErrOf result Fault → HasRisen (C.faults control.old) (C.faults control.new) }
+        ensures control { OnlyWrites (IsErrOf result Fault) (C.left control.old) (C.left control.new) (C.faults control.old) (C.faults control.new) }
         ensures exhausted { IsErrOf result Exhausted → D.exhausts ≡ true }
-        ensures count { C.faults control.old ≤ C.faults control.new }
     {
         let Ok(kind) = self.too_long() else {
             return Err(Halt::Memory);

@@ -1,13 +1,13 @@
 //! Replies on their way to the client, by way of one buffer that is used again and again.
 
-ghost use Rattle.std.specs.Prelude.{◌≡◌, ◌≤◌, ◌++◌, [], Some, OnOk, OnErr, IsErrOf};
+ghost use Rattle.std.specs.Prelude.{◌≡◌, ◌++◌, [], Some, OnOk, OnErr, IsErrOf};
 ghost use Rattle.ftp_base.specs.declared.fault.Failed.TheVariants.{Fault};
 ghost use Rattle.ftp_base.specs.Edge.{Takes};
-ghost use Rattle.ftp_base.specs.Outside.{HasRisen, Writes};
+ghost use Rattle.ftp_base.specs.Outside.{Writes};
 ghost use Rattle.ftp_base.specs.Reply.{encoding};
 ghost use Rattle.ftp_control.specs.Writing.{WritesFront};
 ghost use Rattle.ftp_shared.specs.Outbox.{replies_in};
-ghost use Rattle.ftp_talk.specs.Saying.{encodings, greeting_line, said_in, delay_in, delays, said, WritesBut, IsPaused, IsPausedWithin, SaysFront};
+ghost use Rattle.ftp_talk.specs.Saying.{encodings, greeting_line, said_in, delay_in, delays, said, OnlyWrites, WritesBut, IsPaused, IsPausedWithin, SaysFront};
 ghost use Rattle.ftp_talk.specs.Pieces.{SaysPieces, piece_delays, piece_text, said_pieces};
 
 use ftp_base::{Bytes, Edge, Failed, Link, Reply};
@@ -18,9 +18,7 @@ use std::alloc::AllocError;
 /// Sends all of the bytes, in as many calls as the link needs.
 pub(crate) fn write_all<L: Link>(link: &mut L, bytes: &[u8]) -> Result<(), Failed>
     ensures wrote { OnOk result (Writes (L.sending link.old).sent (L.sending link.new).sent bytes.now) }
-    ensures left { L.left link.new ≡ L.left link.old }
-    ensures fault_rose { IsErrOf result Fault → HasRisen (L.faults link.old) (L.faults link.new) }
-    ensures count { L.faults link.old ≤ L.faults link.new }
+    ensures link { OnlyWrites (IsErrOf result Fault) (L.left link.old) (L.left link.new) (L.faults link.old) (L.faults link.new) }
 
     // After an error a part from the front was sent.
     ensures front { OnErr result (WritesFront (L.sending link.old).sent (L.sending link.new).sent bytes.now) }
@@ -64,9 +62,7 @@ fn put_reply(text: &mut Vec<u8>, reply: &Reply) -> Result<(), AllocError>
 fn flush<L: Link>(link: &mut L, text: &mut Vec<u8>) -> Result<(), Failed>
     ensures wrote { OnOk result (Writes (L.sending link.old).sent (L.sending link.new).sent text.old.items) }
     ensures empty { OnOk result (text.new.items ≡ []) }
-    ensures left { L.left link.new ≡ L.left link.old }
-    ensures fault_rose { IsErrOf result Fault → HasRisen (L.faults link.old) (L.faults link.new) }
-    ensures count { L.faults link.old ≤ L.faults link.new }
+    ensures link { OnlyWrites (IsErrOf result Fault) (L.left link.old) (L.left link.new) (L.faults link.old) (L.faults link.new) }
     ensures front { OnErr result (WritesFront (L.sending link.old).sent (L.sending link.new).sent text.old.items) }
 {
     write_all(link, text.as_slice())?;
@@ -82,12 +78,10 @@ fn pause<L: Link, E: Edge>(
     delay: u32,
 ) -> Result<(), Failed>
     ensures wrote { OnOk result (WritesBut (L.sending link.old).sent (L.sending link.new).sent text.old.items text.new.items []) }
-    ensures left { L.left link.new ≡ L.left link.old }
+    ensures link { OnlyWrites (IsErrOf result Fault) (L.left link.old) (L.left link.new) (L.faults link.old) (L.faults link.new) }
     ensures edge { Takes (λ f. f) (E.view edge.old) (E.view edge.new) }
     ensures paused { OnOk result (IsPaused delay (E.view edge.old).paused (E.view edge.new).paused) }
     ensures unpaused { OnErr result ((E.view edge.new).paused ≡ (E.view edge.old).paused) }
-    ensures fault_rose { IsErrOf result Fault → HasRisen (L.faults link.old) (L.faults link.new) }
-    ensures count { L.faults link.old ≤ L.faults link.new }
     ensures front { OnErr result (WritesFront (L.sending link.old).sent (L.sending link.new).sent text.old.items) }
 {
     if delay > 0 {
@@ -106,12 +100,10 @@ fn add<L: Link, E: Edge>(
     reply: &Reply,
 ) -> Result<(), Failed>
     ensures wrote { OnOk result (WritesBut (L.sending link.old).sent (L.sending link.new).sent text.old.items text.new.items (encoding reply.now)) }
-    ensures left { L.left link.new ≡ L.left link.old }
+    ensures link { OnlyWrites (IsErrOf result Fault) (L.left link.old) (L.left link.new) (L.faults link.old) (L.faults link.new) }
     ensures edge { Takes (λ f. f) (E.view edge.old) (E.view edge.new) }
     ensures paused { OnOk result (IsPaused delay (E.view edge.old).paused (E.view edge.new).paused) }
     ensures within { OnErr result (IsPausedWithin delay (E.view edge.old).paused (E.view edge.new).paused) }
-    ensures fault_rose { IsErrOf result Fault → HasRisen (L.faults link.old) (L.faults link.new) }
-    ensures count { L.faults link.old ≤ L.faults link.new }
     ensures front { OnErr result (WritesFront (L.sending link.old).sent (L.sending link.new).sent text.old.items) }
 {
     pause(link, edge, text, delay)?;
@@ -130,12 +122,10 @@ fn add_action<L: Link, E: Edge>(
     action: &Action,
 ) -> Result<(), Failed>
     ensures wrote { OnOk result (WritesBut (L.sending link.old).sent (L.sending link.new).sent text.old.items text.new.items (said_in session action.now)) }
-    ensures left { L.left link.new ≡ L.left link.old }
+    ensures link { OnlyWrites (IsErrOf result Fault) (L.left link.old) (L.left link.new) (L.faults link.old) (L.faults link.new) }
     ensures edge { Takes (λ f. f) (E.view edge.old) (E.view edge.new) }
     ensures paused { OnOk result (IsPaused (delay_in session action.now) (E.view edge.old).paused (E.view edge.new).paused) }
     ensures within { OnErr result (IsPausedWithin (delay_in session action.now) (E.view edge.old).paused (E.view edge.new).paused) }
-    ensures fault_rose { IsErrOf result Fault → HasRisen (L.faults link.old) (L.faults link.new) }
-    ensures count { L.faults link.old ≤ L.faults link.new }
     ensures front { OnErr result (WritesFront (L.sending link.old).sent (L.sending link.new).sent text.old.items) }
 {
     if let Action::Reply {
@@ -159,11 +149,9 @@ fn add_replies<L: Link, E: Edge>(
     replies: &[(u32, Reply)],
 ) -> Result<(), Failed>
     ensures wrote { OnOk result (WritesBut (L.sending link.old).sent (L.sending link.new).sent text.old.items text.new.items (encodings replies.now)) }
-    ensures left { L.left link.new ≡ L.left link.old }
+    ensures link { OnlyWrites (IsErrOf result Fault) (L.left link.old) (L.left link.new) (L.faults link.old) (L.faults link.new) }
     ensures edge { Takes (λ f. f) (E.view edge.old) (E.view edge.new) }
     ensures paused { OnOk result (IsPaused (delays replies.now) (E.view edge.old).paused (E.view edge.new).paused) }
-    ensures fault_rose { IsErrOf result Fault → HasRisen (L.faults link.old) (L.faults link.new) }
-    ensures count { L.faults link.old ≤ L.faults link.new }
     ensures front { OnErr result (SaysFront (L.sending link.old).sent (L.sending link.new).sent (E.view edge.old).paused (E.view edge.new).paused text.old.items replies.now) }
 {
     for (delay, reply) in replies {
@@ -181,11 +169,9 @@ fn add_actions<L: Link, E: Edge>(
     actions: &[Action],
 ) -> Result<(), Failed>
     ensures wrote { OnOk result (WritesBut (L.sending link.old).sent (L.sending link.new).sent text.old.items text.new.items (encodings (replies_in actions.now session))) }
-    ensures left { L.left link.new ≡ L.left link.old }
+    ensures link { OnlyWrites (IsErrOf result Fault) (L.left link.old) (L.left link.new) (L.faults link.old) (L.faults link.new) }
     ensures edge { Takes (λ f. f) (E.view edge.old) (E.view edge.new) }
     ensures paused { OnOk result (IsPaused (delays (replies_in actions.now session)) (E.view edge.old).paused (E.view edge.new).paused) }
-    ensures fault_rose { IsErrOf result Fault → HasRisen (L.faults link.old) (L.faults link.new) }
-    ensures count { L.faults link.old ≤ L.faults link.new }
     ensures front { OnErr result (SaysFront (L.sending link.old).sent (L.sending link.new).sent (E.view edge.old).paused (E.view edge.new).paused text.old.items (replies_in actions.now session)) }
 {
     for action in actions {
@@ -207,11 +193,9 @@ pub(crate) fn say<L: Link, E: Edge>(
     actions: &[Action],
 ) -> Result<(), Failed>
     ensures wrote { OnOk result (Writes (L.sending link.old).sent (L.sending link.new).sent (encodings (said session earlier.now actions.now))) }
-    ensures left { L.left link.new ≡ L.left link.old }
+    ensures link { OnlyWrites (IsErrOf result Fault) (L.left link.old) (L.left link.new) (L.faults link.old) (L.faults link.new) }
     ensures edge { Takes (λ f. f) (E.view edge.old) (E.view edge.new) }
     ensures paused { OnOk result (IsPaused (delays (said session earlier.now actions.now)) (E.view edge.old).paused (E.view edge.new).paused) }
-    ensures fault_rose { IsErrOf result Fault → HasRisen (L.faults link.old) (L.faults link.new) }
-    ensures count { L.faults link.old ≤ L.faults link.new }
 
     // After an error a part from the front was sent, each reply behind its delay.
     ensures front { OnErr result (SaysFront (L.sending link.old).sent (L.sending link.new).sent (E.view edge.old).paused (E.view edge.new).paused [] (said session earlier.now actions.now)) }
@@ -232,11 +216,9 @@ fn say_port<L: Link, E: Edge>(
     port: u16,
 ) -> Result<(), Failed>
     ensures wrote { OnOk result (Writes (L.sending link.old).sent (L.sending link.new).sent (piece_text (said_pieces session (Some port) earlier.now []))) }
-    ensures left { L.left link.new ≡ L.left link.old }
+    ensures link { OnlyWrites (IsErrOf result Fault) (L.left link.old) (L.left link.new) (L.faults link.old) (L.faults link.new) }
     ensures edge { Takes (λ f. f) (E.view edge.old) (E.view edge.new) }
     ensures paused { OnOk result (IsPaused (piece_delays (said_pieces session (Some port) earlier.now [])) (E.view edge.old).paused (E.view edge.new).paused) }
-    ensures fault_rose { IsErrOf result Fault → HasRisen (L.faults link.old) (L.faults link.new) }
-    ensures count { L.faults link.old ≤ L.faults link.new }
     ensures front { OnErr result (SaysPieces (L.sending link.old).sent (L.sending link.new).sent (E.view edge.old).paused (E.view edge.new).paused [] (said_pieces session (Some port) earlier.now [])) }
 {
     say(link, edge, text, session, earlier, &[])?;
@@ -259,11 +241,9 @@ pub(crate) fn say_for<L: Link, E: Edge>(
     actions: &[Action],
 ) -> Result<(), Failed>
     ensures wrote { OnOk result (Writes (L.sending link.old).sent (L.sending link.new).sent (piece_text (said_pieces session port earlier.now actions.now))) }
-    ensures left { L.left link.new ≡ L.left link.old }
+    ensures link { OnlyWrites (IsErrOf result Fault) (L.left link.old) (L.left link.new) (L.faults link.old) (L.faults link.new) }
     ensures edge { Takes (λ f. f) (E.view edge.old) (E.view edge.new) }
     ensures paused { OnOk result (IsPaused (piece_delays (said_pieces session port earlier.now actions.now)) (E.view edge.old).paused (E.view edge.new).paused) }
-    ensures fault_rose { IsErrOf result Fault → HasRisen (L.faults link.old) (L.faults link.new) }
-    ensures count { L.faults link.old ≤ L.faults link.new }
     ensures front { OnErr result (SaysPieces (L.sending link.old).sent (L.sending link.new).sent (E.view edge.old).paused (E.view edge.new).paused [] (said_pieces session port earlier.now actions.now)) }
 {
     match port {

@@ -3,6 +3,7 @@
 ghost use Rattle.std.specs.Prelude.{◌≡◌, ◌≤◌, ◌++◌, [], ℕ, List, true, Option, Some, length, IfSome, IfNone, IsErrOf};
 ghost use Rattle.ftp_base.specs.Outside.{HasRisen};
 ghost use Rattle.ftp_control.specs.ControlLine.{IsHeld, held_in, line_in};
+ghost use Rattle.ftp_talk.specs.Saying.{OnlyWrites};
 ghost use Rattle.ftp_talk.specs.declared.halt.Halt.TheVariants.{Exhausted, Fault};
 ghost use Rattle.ftp_talk.specs.Ground.{Ground};
 ghost use Rattle.ftp_talk.specs.Extended.{OutcomeWith};
@@ -35,10 +36,8 @@ impl ControlSession {
             HearsLines (X.may x0) (X.pending x0) (X.may extras.old) (X.pending extras.old) hs →
             Standing LineDue g self.old (E.view edge.old) (D.view desk.old) (C.sending control.old).sent hs (line_in bytes.now got ++ rest) → IsGot C.is_always_ready bytes.now got rest →
             ServesLines (X.may x0) (X.pending x0) (X.may extras.new) (X.pending extras.new) result g self.new (E.view edge.new) (D.view desk.new) (C.sending control.new).sent rest }
-        ensures left { C.left control.new ≡ C.left control.old }
-        ensures fault_rose { IsErrOf result Fault → HasRisen (C.faults control.old) (C.faults control.new) }
+        ensures control { OnlyWrites (IsErrOf result Fault) (C.left control.old) (C.left control.new) (C.faults control.old) (C.faults control.new) }
         ensures exhausted { IsErrOf result Exhausted → D.exhausts ≡ true }
-        ensures count { C.faults control.old ≤ C.faults control.new }
         ensures extras_count { X.faults extras.old ≤ X.faults extras.new }
     {
         match got {

@@ -1,10 +1,10 @@
 //! A talk, line by line.
 
 ghost use Rattle.std.specs.Prelude.{◌≡◌, ◌≤◌, ◌++◌, [], ℕ, List, Option, true, false, Ok, Err, unwrap_or, IsErrOf};
-ghost use Rattle.ftp_base.specs.Outside.{HasRisen};
 ghost use Rattle.ftp_control.specs.declared.command.Command.TheVariants as command;
 ghost use Rattle.ftp_control.specs.Line.{parsed};
 ghost use Rattle.ftp_control.specs.ControlLine.{IsLine};
+ghost use Rattle.ftp_talk.specs.Saying.{OnlyWrites};
 ghost use Rattle.ftp_talk.specs.declared.halt.Halt.TheVariants.{Exhausted, Fault};
 ghost use Rattle.ftp_talk.specs.Ground.{Ground};
 ghost use Rattle.ftp_talk.specs.Turns.{LineDue};
@@ -103,10 +103,8 @@ impl ControlSession {
             Standing LineDue g self.old (E.view edge.old) (D.view desk.old) (C.sending control.old).sent hs (x.line ++ rest) →
             IsHearing self.old x → x.extra ≡ extra → IsHeardAs is_refused x.line command →
             StandsBehindLine result g self.new (E.view edge.new) (D.view desk.new) (C.sending control.new).sent hs x rest }
-        ensures left { C.left control.new ≡ C.left control.old }
-        ensures fault_rose { IsErrOf result Fault → HasRisen (C.faults control.old) (C.faults control.new) }
+        ensures control { OnlyWrites (IsErrOf result Fault) (C.left control.old) (C.left control.new) (C.faults control.old) (C.faults control.new) }
         ensures exhausted { IsErrOf result Exhausted → D.exhausts ≡ true }
-        ensures count { C.faults control.old ≤ C.faults control.new }
     {
         let is_epsv = is_epsv_line(&extra);
         let Ok((kind, lines)) = self.ask_heard(desk, edge, command, is_refused, extra) else {
@@ -135,10 +133,8 @@ impl ControlSession {
             Standing LineDue g self.old (E.view edge.old) (D.view desk.old) (C.sending control.old).sent hs (line ++ rest) →
             IsLine line → parsed line ≡ Err error →
             StandsBehind due_at result g self.new (E.view edge.new) (D.view desk.new) (C.sending control.new).sent hs rest }
-        ensures left { C.left control.new ≡ C.left control.old }
-        ensures fault_rose { IsErrOf result Fault → HasRisen (C.faults control.old) (C.faults control.new) }
+        ensures control { OnlyWrites (IsErrOf result Fault) (C.left control.old) (C.left control.new) (C.faults control.old) (C.faults control.new) }
         ensures exhausted { IsErrOf result Exhausted → D.exhausts ≡ true }
-        ensures count { C.faults control.old ≤ C.faults control.new }
     {
         let Ok(kind) = self.refused_as(error) else {
             return Err(Halt::Memory);
@@ -160,10 +156,8 @@ impl ControlSession {
             Standing LineDue g self.old (E.view edge.old) (D.view desk.old) (C.sending control.old).sent hs (line ++ rest) →
             IsLine line → parsed line ≡ Ok (command.Pass password) →
             StandsBehind due_at result g self.new (E.view edge.new) (D.view desk.new) (C.sending control.new).sent hs rest }
-        ensures left { C.left control.new ≡ C.left control.old }
-        ensures fault_rose { IsErrOf result Fault → HasRisen (C.faults control.old) (C.faults control.new) }
+        ensures control { OnlyWrites (IsErrOf result Fault) (C.left control.old) (C.left control.new) (C.faults control.old) (C.faults control.new) }
         ensures exhausted { IsErrOf result Exhausted → D.exhausts ≡ true }
-        ensures count { C.faults control.old ≤ C.faults control.new }
     {
         let kind = EventKind::Pass {
             session: self.session,
@@ -210,10 +204,8 @@ impl ControlSession {
             Standing LineDue g self.old (E.view edge.old) (D.view desk.old) (C.sending control.old).sent hs (line.now ++ rest) →
             IsLine line.now → IsHeardAs is_refused line.now command →
             ServesLines (X.may x0) (X.pending x0) (X.may extras.new) (X.pending extras.new) result g self.new (E.view edge.new) (D.view desk.new) (C.sending control.new).sent rest }
-        ensures left { C.left control.new ≡ C.left control.old }
-        ensures fault_rose { IsErrOf result Fault → HasRisen (C.faults control.old) (C.faults control.new) }
+        ensures control { OnlyWrites (IsErrOf result Fault) (C.left control.old) (C.left control.new) (C.faults control.old) (C.faults control.new) }
         ensures exhausted { IsErrOf result Exhausted → D.exhausts ≡ true }
-        ensures count { C.faults control.old ≤ C.faults control.new }
         ensures extras_count { X.faults extras.old ≤ X.faults extras.new }
     {
         let asker = Asker {
@@ -241,10 +233,8 @@ impl ControlSession {
             HearsLines (X.may x0) (X.pending x0) (X.may extras.old) (X.pending extras.old) hs →
             Standing LineDue g self.old (E.view edge.old) (D.view desk.old) (C.sending control.old).sent hs (line.now ++ rest) → IsLine line.now →
             ServesLines (X.may x0) (X.pending x0) (X.may extras.new) (X.pending extras.new) result g self.new (E.view edge.new) (D.view desk.new) (C.sending control.new).sent rest }
-        ensures left { C.left control.new ≡ C.left control.old }
-        ensures fault_rose { IsErrOf result Fault → HasRisen (C.faults control.old) (C.faults control.new) }
+        ensures control { OnlyWrites (IsErrOf result Fault) (C.left control.old) (C.left control.new) (C.faults control.old) (C.faults control.new) }
         ensures exhausted { IsErrOf result Exhausted → D.exhausts ≡ true }
-        ensures count { C.faults control.old ≤ C.faults control.new }
         ensures extras_count { X.faults extras.old ≤ X.faults extras.new }
     {
         match parse_line(self.alloc, line) {

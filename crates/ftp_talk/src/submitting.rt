@@ -1,10 +1,11 @@
 //! One event, and what is said on it.
 
-ghost use Rattle.std.specs.Prelude.{◌≡◌, ◌≤◌, ◌⊎◌, ◌++◌, ℕ, List, false, true, IfErr, IfOk, OnErr, IsErrOf};
+ghost use Rattle.std.specs.Prelude.{◌≡◌, ◌⊎◌, ◌++◌, ℕ, List, false, true, IfErr, IfOk, OnErr, IsErrOf};
 ghost use Rattle.ftp_base.specs.Edge.{Takes, behind_moment};
 ghost use Rattle.ftp_base.specs.Outside.{HasRisen};
 ghost use Rattle.ftp_shared.specs.Outbox.{has_ticket};
 ghost use Rattle.ftp_shared.specs.Desk.{SameDesk};
+ghost use Rattle.ftp_talk.specs.Saying.{OnlyWrites};
 ghost use Rattle.ftp_talk.specs.declared.halt.Halt.TheVariants.{Exhausted, Fault, Memory};
 ghost use Rattle.ftp_talk.specs.Ground.{Step, Turn, Ground, line_of};
 ghost use Rattle.ftp_talk.specs.Parts.{HeardLine, epsv_port};
@@ -67,10 +68,8 @@ impl ControlSession {
         ensures spoke { (g : Ground) (ts : List Turn) (pieces : Pieces) (step : Step) → g.start.vouches ≡ D.vouches →
             Asking g self.old (E.view edge.old) (D.view desk.old) (C.sending control.old).sent ts pieces kind →
             IsSpoken result g self.new (E.view edge.new) (D.view desk.new) (C.sending control.new).sent ts pieces step kind is_epsv }
-        ensures left { C.left control.new ≡ C.left control.old }
-        ensures fault_rose { IsErrOf result Fault → HasRisen (C.faults control.old) (C.faults control.new) }
+        ensures control { OnlyWrites (IsErrOf result Fault) (C.left control.old) (C.left control.new) (C.faults control.old) (C.faults control.new) }
         ensures exhausted { IsErrOf result Exhausted → D.exhausts ≡ true }
-        ensures count { C.faults control.old ≤ C.faults control.new }
     {
         let told = match submit(desk, edge, kind) {
             Ok(told) => told,
@@ -108,10 +107,8 @@ impl ControlSession {
         ensures served { (g : Ground) (old : Due) (step : Step) (hs : List HeardLine) (rest : List ℕ) → IsAbout g D.vouches D.draws_next →
             Standing old g self.old (E.view edge.old) (D.view desk.old) (C.sending control.old).sent hs (line_of step ++ rest) → MayStep g self.old old step kind rest →
             StandsBehind (due_by step) result g self.new (E.view edge.new) (D.view desk.new) (C.sending control.new).sent hs rest }
-        ensures left { C.left control.new ≡ C.left control.old }
-        ensures fault_rose { IsErrOf result Fault → HasRisen (C.faults control.old) (C.faults control.new) }
+        ensures control { OnlyWrites (IsErrOf result Fault) (C.left control.old) (C.left control.new) (C.faults control.old) (C.faults control.new) }
         ensures exhausted { IsErrOf result Exhausted → D.exhausts ≡ true }
-        ensures count { C.faults control.old ≤ C.faults control.new }
     {
         self.submit_for(desk, control, edge, kind, false)
     }

@@ -70,7 +70,7 @@ returns-in-Err-greet-clause-read_fault g c = λ e.
 
 pub returns-in-Err-greet-clause-write_fault : goal.returns-in-Err-greet-clause-write_fault
 returns-in-Err-greet-clause-write_fault g c = λ e.
-    c.in-Err-greet.ensures.fault_rose (ap Err ((halt-ends c.in-Err-greet.failed c.end_by.result (c.end_by.ensures ∙ ap end_by c.from.ensures)).0 e))
+    c.in-Err-greet.ensures.link.fault_rose (ap Err ((halt-ends c.in-Err-greet.failed c.end_by.result (c.end_by.ensures ∙ ap end_by c.from.ensures)).0 e))
 
 pub returns-in-Err-greet-clause-exhausted : goal.returns-in-Err-greet-clause-exhausted
 returns-in-Err-greet-clause-exhausted g c = λ e.
@@ -79,12 +79,12 @@ returns-in-Err-greet-clause-exhausted g c = λ e.
 pub returns-in-Err-greet-clause-complete : goal.returns-in-Err-greet-clause-complete
 returns-in-Err-greet-clause-complete g c =
     halt-sound c.in-Err-greet.failed c.end_by.result (g.C.Source.faults c.args.control.now) (g.C.Source.faults c.greet.new.link)
-    (c.end_by.ensures ∙ ap end_by c.from.ensures) (λ e. c.in-Err-greet.ensures.fault_rose (ap Err e))
+    (c.end_by.ensures ∙ ap end_by c.from.ensures) (λ e. c.in-Err-greet.ensures.link.fault_rose (ap Err e))
 
 pub returns-clause-complete : goal.returns-clause-complete
 returns-clause-complete g c =
     end-sound c.serve_lines.result (g.C.Source.faults c.args.control.now) (g.C.Source.faults c.greet.new.link) (g.C.Source.faults c.serve_lines.new.control)
-    c.greet.ensures.count c.serve_lines.ensures.count c.serve_lines.ensures.read_fault c.serve_lines.ensures.write_fault
+    c.in_default-greet.ensures.link.count c.serve_lines.ensures.count c.serve_lines.ensures.read_fault c.serve_lines.ensures.write_fault
 
 pub returns-clause-served : goal.returns-clause-served
 returns-clause-served g c =
@@ -99,7 +99,7 @@ returns-clause-served g c =
     let sent1 = (g.C.Source.sending c.greet.new.link).sent in
     let wrote = subst (λ (o : Options). Writes start.sent sent1 (greeting_line o.greeting)) (c.options.ensures.told ∙ h.options) c.in_default-greet.ensures.wrote in
     let talking = begin-talking h.entry h.peer c.args.answer start desk1 h.submitted.earlier c.greet.new.self sent1 (g.C.Source.left c.greet.new.link)
-    h.decision named h.appended h.share h.options h.files h.count h.unrefused knows live wrote c.greet.ensures.left in
+    h.decision named h.appended h.share h.options h.files h.count h.unrefused knows live wrote c.in_default-greet.ensures.link.left in
     serves-with (g.X.Extras.may c.args.extras.now) (g.X.Extras.pending c.args.extras.now) c.serve_lines.result c.args.opening c.args.answer start (g.E.Edge.view c.serve_lines.new.edge) (g.D.Desk.view c.serve_lines.new.desk) (g.C.Source.sending c.serve_lines.new.control).sent
     (record {
       entry = h.entry;

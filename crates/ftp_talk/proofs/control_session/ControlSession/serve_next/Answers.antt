@@ -19,7 +19,7 @@ returns-in-Ok-clause-goes_on g c =
     let held1 = held_in c.next_control_line.new.buffer c.next_control_line.new.held in
     let st = standing-got q c.args.self.now _ _ _ _ hs c.next_control_line.new.buffer c.in-Ok.got g.C.Control.is_always_ready _ held1 _ left1 c.next_control_line.ensures.sent t c.in-Ok.ensures.told c.in-Ok.ensures.found (λ b e. c.in-Ok.ensures.always b (ap Ok e)) in
     let w = c.serve_got-next.ensures.served q x0 hs st.0 is hears st.1 st.2 in
-    (w.0, only-ok c.serve_got-next.result h.1 w.2, talking-on q _ _ _ _ w.0 held1 st.0 left1 _ (h.2 q w.0 st.0 w.3) st.3 (h.0 ∙ c.serve_got-next.ensures.left)))
+    (w.0, only-ok c.serve_got-next.result h.1 w.2, talking-on q _ _ _ _ w.0 held1 st.0 left1 _ (h.2 q w.0 st.0 w.3) st.3 (h.0 ∙ c.serve_got-next.ensures.control.left)))
     c.proceed.ensures.goes_on
 
 pub returns-in-Ok-clause-ended : goal.returns-in-Ok-clause-ended
@@ -33,7 +33,7 @@ returns-in-Ok-clause-ended g c =
 
 pub returns-in-Ok-clause-write_fault : goal.returns-in-Ok-clause-write_fault
 returns-in-Ok-clause-write_fault g c = λ e.
-    risen-either _ _ _ _ c.serve_got-next.ensures.fault_rose (c.proceed.ensures.write_fault e) c.next_control_line.ensures.count c.serve_got-next.ensures.count c.proceed.ensures.count
+    risen-either _ _ _ _ c.serve_got-next.ensures.control.fault_rose (c.proceed.ensures.write_fault e) c.next_control_line.ensures.count c.serve_got-next.ensures.control.count c.proceed.ensures.count
 
 pub returns-in-Ok-clause-exhausted : goal.returns-in-Ok-clause-exhausted
 returns-in-Ok-clause-exhausted g c = λ e. said-either c.serve_got-next.ensures.exhausted (c.proceed.ensures.exhausted e)
