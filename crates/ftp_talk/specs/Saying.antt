@@ -2,6 +2,7 @@
 use Rattle.std.specs.Prelude.{◌≡◌, ℕ, ◌+◌, ◌-◌, ◌^◌, ◌<◌, ◌≤◌, ◌==◌, List, [], ◌∷◌, ◌++◌, codes, Option, unwrap_or, if◌then◌else◌}
 use Rattle.std.specs.List.{flat_map}
 use Rattle.ftp_base.specs.declared.reply.Reply.{Reply}
+use Rattle.ftp_base.specs.Edge.{EdgeView, Takes}
 use Rattle.ftp_base.specs.Outside.{HasRisen, Writes}
 use Rattle.ftp_base.specs.Reply.{encoding}
 use Rattle.ftp_events.specs.declared.action.Action.{Action}
@@ -14,6 +15,13 @@ pub record OnlyWrites (fails : Type 0) (unread unread_now : Option (List ℕ)) (
   pub left : unread_now ≡ unread
   pub fault_rose : fails → HasRisen count_before count_now
   pub count : count_before ≤ count_now
+
+-- nothing was read of a connection, its count of faults rose where a call failed, and the edge was paused alone
+pub record OnlySays (fails : Type 0) (unread unread_now : Option (List ℕ)) (count_before count_now : ℕ) (before now : EdgeView) : Type 0 where
+  pub left : unread_now ≡ unread
+  pub fault_rose : fails → HasRisen count_before count_now
+  pub count : count_before ≤ count_now
+  pub edge : Takes (λ f. f) before now
 
 -- the line of the greeting
 abbrev pub greeting_line : Option (List ℕ) → List ℕ

@@ -2,12 +2,11 @@
 
 ghost use Rattle.std.specs.Prelude.{◌≡◌, ◌++◌, [], Some, OnOk, OnErr, IsErrOf};
 ghost use Rattle.ftp_base.specs.declared.fault.Failed.TheVariants.{Fault};
-ghost use Rattle.ftp_base.specs.Edge.{Takes};
 ghost use Rattle.ftp_base.specs.Outside.{Writes};
 ghost use Rattle.ftp_base.specs.Reply.{encoding};
 ghost use Rattle.ftp_control.specs.Writing.{WritesFront};
 ghost use Rattle.ftp_shared.specs.Outbox.{replies_in};
-ghost use Rattle.ftp_talk.specs.Saying.{encodings, greeting_line, said_in, delay_in, delays, said, OnlyWrites, WritesBut, IsPaused, IsPausedWithin, SaysFront};
+ghost use Rattle.ftp_talk.specs.Saying.{encodings, greeting_line, said_in, delay_in, delays, said, OnlySays, OnlyWrites, WritesBut, IsPaused, IsPausedWithin, SaysFront};
 ghost use Rattle.ftp_talk.specs.Pieces.{SaysPieces, piece_delays, piece_text, said_pieces};
 
 use ftp_base::{Bytes, Edge, Failed, Link, Reply};
@@ -78,8 +77,7 @@ fn pause<L: Link, E: Edge>(
     delay: u32,
 ) -> Result<(), Failed>
     ensures wrote { OnOk result (WritesBut (L.sending link.old).sent (L.sending link.new).sent text.old.items text.new.items []) }
-    ensures link { OnlyWrites (IsErrOf result Fault) (L.left link.old) (L.left link.new) (L.faults link.old) (L.faults link.new) }
-    ensures edge { Takes (λ f. f) (E.view edge.old) (E.view edge.new) }
+    ensures calls { OnlySays (IsErrOf result Fault) (L.left link.old) (L.left link.new) (L.faults link.old) (L.faults link.new) (E.view edge.old) (E.view edge.new) }
     ensures paused { OnOk result (IsPaused delay (E.view edge.old).paused (E.view edge.new).paused) }
     ensures unpaused { OnErr result ((E.view edge.new).paused ≡ (E.view edge.old).paused) }
     ensures front { OnErr result (WritesFront (L.sending link.old).sent (L.sending link.new).sent text.old.items) }
@@ -100,8 +98,7 @@ fn add<L: Link, E: Edge>(
     reply: &Reply,
 ) -> Result<(), Failed>
     ensures wrote { OnOk result (WritesBut (L.sending link.old).sent (L.sending link.new).sent text.old.items text.new.items (encoding reply.now)) }
-    ensures link { OnlyWrites (IsErrOf result Fault) (L.left link.old) (L.left link.new) (L.faults link.old) (L.faults link.new) }
-    ensures edge { Takes (λ f. f) (E.view edge.old) (E.view edge.new) }
+    ensures calls { OnlySays (IsErrOf result Fault) (L.left link.old) (L.left link.new) (L.faults link.old) (L.faults link.new) (E.view edge.old) (E.view edge.new) }
     ensures paused { OnOk result (IsPaused delay (E.view edge.old).paused (E.view edge.new).paused) }
     ensures within { OnErr result (IsPausedWithin delay (E.view edge.old).paused (E.view edge.new).paused) }
     ensures front { OnErr result (WritesFront (L.sending link.old).sent (L.sending link.new).sent text.old.items) }
@@ -122,8 +119,7 @@ fn add_action<L: Link, E: Edge>(
     action: &Action,
 ) -> Result<(), Failed>
     ensures wrote { OnOk result (WritesBut (L.sending link.old).sent (L.sending link.new).sent text.old.items text.new.items (said_in session action.now)) }
-    ensures link { OnlyWrites (IsErrOf result Fault) (L.left link.old) (L.left link.new) (L.faults link.old) (L.faults link.new) }
-    ensures edge { Takes (λ f. f) (E.view edge.old) (E.view edge.new) }
+    ensures calls { OnlySays (IsErrOf result Fault) (L.left link.old) (L.left link.new) (L.faults link.old) (L.faults link.new) (E.view edge.old) (E.view edge.new) }
     ensures paused { OnOk result (IsPaused (delay_in session action.now) (E.view edge.old).paused (E.view edge.new).paused) }
     ensures within { OnErr result (IsPausedWithin (delay_in session action.now) (E.view edge.old).paused (E.view edge.new).paused) }
     ensures front { OnErr result (WritesFront (L.sending link.old).sent (L.sending link.new).sent text.old.items) }
@@ -149,8 +145,7 @@ fn add_replies<L: Link, E: Edge>(
     replies: &[(u32, Reply)],
 ) -> Result<(), Failed>
     ensures wrote { OnOk result (WritesBut (L.sending link.old).sent (L.sending link.new).sent text.old.items text.new.items (encodings replies.now)) }
-    ensures link { OnlyWrites (IsErrOf result Fault) (L.left link.old) (L.left link.new) (L.faults link.old) (L.faults link.new) }
-    ensures edge { Takes (λ f. f) (E.view edge.old) (E.view edge.new) }
+    ensures calls { OnlySays (IsErrOf result Fault) (L.left link.old) (L.left link.new) (L.faults link.old) (L.faults link.new) (E.view edge.old) (E.view edge.new) }
     ensures paused { OnOk result (IsPaused (delays replies.now) (E.view edge.old).paused (E.view edge.new).paused) }
     ensures front { OnErr result (SaysFront (L.sending link.old).sent (L.sending link.new).sent (E.view edge.old).paused (E.view edge.new).paused text.old.items replies.now) }
 {
@@ -169,8 +164,7 @@ fn add_actions<L: Link, E: Edge>(
     actions: &[Action],
 ) -> Result<(), Failed>
     ensures wrote { OnOk result (WritesBut (L.sending link.old).sent (L.sending link.new).sent text.old.items text.new.items (encodings (replies_in actions.now session))) }
-    ensures link { OnlyWrites (IsErrOf result Fault) (L.left link.old) (L.left link.new) (L.faults link.old) (L.faults link.new) }
-    ensures edge { Takes (λ f. f) (E.view edge.old) (E.view edge.new) }
+    ensures calls { OnlySays (IsErrOf result Fault) (L.left link.old) (L.left link.new) (L.faults link.old) (L.faults link.new) (E.view edge.old) (E.view edge.new) }
     ensures paused { OnOk result (IsPaused (delays (replies_in actions.now session)) (E.view edge.old).paused (E.view edge.new).paused) }
     ensures front { OnErr result (SaysFront (L.sending link.old).sent (L.sending link.new).sent (E.view edge.old).paused (E.view edge.new).paused text.old.items (replies_in actions.now session)) }
 {
@@ -193,8 +187,7 @@ pub(crate) fn say<L: Link, E: Edge>(
     actions: &[Action],
 ) -> Result<(), Failed>
     ensures wrote { OnOk result (Writes (L.sending link.old).sent (L.sending link.new).sent (encodings (said session earlier.now actions.now))) }
-    ensures link { OnlyWrites (IsErrOf result Fault) (L.left link.old) (L.left link.new) (L.faults link.old) (L.faults link.new) }
-    ensures edge { Takes (λ f. f) (E.view edge.old) (E.view edge.new) }
+    ensures calls { OnlySays (IsErrOf result Fault) (L.left link.old) (L.left link.new) (L.faults link.old) (L.faults link.new) (E.view edge.old) (E.view edge.new) }
     ensures paused { OnOk result (IsPaused (delays (said session earlier.now actions.now)) (E.view edge.old).paused (E.view edge.new).paused) }
 
     // After an error a part from the front was sent, each reply behind its delay.
@@ -216,8 +209,7 @@ fn say_port<L: Link, E: Edge>(
     port: u16,
 ) -> Result<(), Failed>
     ensures wrote { OnOk result (Writes (L.sending link.old).sent (L.sending link.new).sent (piece_text (said_pieces session (Some port) earlier.now []))) }
-    ensures link { OnlyWrites (IsErrOf result Fault) (L.left link.old) (L.left link.new) (L.faults link.old) (L.faults link.new) }
-    ensures edge { Takes (λ f. f) (E.view edge.old) (E.view edge.new) }
+    ensures calls { OnlySays (IsErrOf result Fault) (L.left link.old) (L.left link.new) (L.faults link.old) (L.faults link.new) (E.view edge.old) (E.view edge.new) }
     ensures paused { OnOk result (IsPaused (piece_delays (said_pieces session (Some port) earlier.now [])) (E.view edge.old).paused (E.view edge.new).paused) }
     ensures front { OnErr result (SaysPieces (L.sending link.old).sent (L.sending link.new).sent (E.view edge.old).paused (E.view edge.new).paused [] (said_pieces session (Some port) earlier.now [])) }
 {
@@ -241,8 +233,7 @@ pub(crate) fn say_for<L: Link, E: Edge>(
     actions: &[Action],
 ) -> Result<(), Failed>
     ensures wrote { OnOk result (Writes (L.sending link.old).sent (L.sending link.new).sent (piece_text (said_pieces session port earlier.now actions.now))) }
-    ensures link { OnlyWrites (IsErrOf result Fault) (L.left link.old) (L.left link.new) (L.faults link.old) (L.faults link.new) }
-    ensures edge { Takes (λ f. f) (E.view edge.old) (E.view edge.new) }
+    ensures calls { OnlySays (IsErrOf result Fault) (L.left link.old) (L.left link.new) (L.faults link.old) (L.faults link.new) (E.view edge.old) (E.view edge.new) }
     ensures paused { OnOk result (IsPaused (piece_delays (said_pieces session port earlier.now actions.now)) (E.view edge.old).paused (E.view edge.new).paused) }
     ensures front { OnErr result (SaysPieces (L.sending link.old).sent (L.sending link.new).sent (E.view edge.old).paused (E.view edge.new).paused [] (said_pieces session port earlier.now actions.now)) }
 {

@@ -20,11 +20,11 @@ loop-action-preserved g c = record {
       (g.L.Source.sending c.args.link.now).sent (g.L.Source.sending c.loop-action.link).sent (g.L.Source.sending c.add_action.new.link).sent
       c.args.text.now.items c.loop-action.text.items c.add_action.new.text.items
       c.loop-action-test.true c.loop-action.invariant.wrote (rw c.action-item.is at c.in_ok-add_action.ensures.wrote);
-  left = c.in_ok-add_action.ensures.link.left ∙ c.loop-action.invariant.left;
-  edge = takes-on _ _ _ c.loop-action.invariant.edge c.add_action.ensures.edge;
+  left = c.in_ok-add_action.ensures.calls.left ∙ c.loop-action.invariant.left;
+  edge = takes-on _ _ _ c.loop-action.invariant.edge c.in_ok-add_action.ensures.calls.edge;
   paused =
       paused-action c.args.session c.args.actions.now c.loop-action.action-index c.action-item.result
       (g.E.Edge.view c.args.edge.now).paused (g.E.Edge.view c.loop-action.edge).paused (g.E.Edge.view c.add_action.new.edge).paused
       c.loop-action-test.true c.loop-action.invariant.paused (rw c.action-item.is at c.in_ok-add_action.ensures.paused);
-  count = omega (arith, c.loop-action.invariant.count, c.in_ok-add_action.ensures.link.count);
+  count = omega (arith, c.loop-action.invariant.count, c.in_ok-add_action.ensures.calls.count);
 }

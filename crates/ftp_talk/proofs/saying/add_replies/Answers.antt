@@ -21,11 +21,11 @@ loop-delay-preserved g c = record {
       (g.L.Source.sending c.args.link.now).sent (g.L.Source.sending c.loop-delay.link).sent (g.L.Source.sending c.add.new.link).sent
       c.args.text.now.items c.loop-delay.text.items c.add.new.text.items
       c.loop-delay-test.true c.loop-delay.invariant.wrote (rw c.loop-delay-item.is at c.in_ok-add.ensures.wrote);
-  left = c.in_ok-add.ensures.link.left ∙ c.loop-delay.invariant.left;
-  edge = takes-on _ _ _ c.loop-delay.invariant.edge c.add.ensures.edge;
+  left = c.in_ok-add.ensures.calls.left ∙ c.loop-delay.invariant.left;
+  edge = takes-on _ _ _ c.loop-delay.invariant.edge c.in_ok-add.ensures.calls.edge;
   paused =
       paused-reply c.args.replies.now c.loop-delay.delay-index c.loop-delay-item.result
       (g.E.Edge.view c.args.edge.now).paused (g.E.Edge.view c.loop-delay.edge).paused (g.E.Edge.view c.add.new.edge).paused
       c.loop-delay-test.true c.loop-delay.invariant.paused (rw c.loop-delay-item.is at c.in_ok-add.ensures.paused);
-  count = omega (arith, c.loop-delay.invariant.count, c.in_ok-add.ensures.link.count);
+  count = omega (arith, c.loop-delay.invariant.count, c.in_ok-add.ensures.calls.count);
 }

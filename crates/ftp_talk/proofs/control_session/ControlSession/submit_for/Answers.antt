@@ -48,7 +48,7 @@ returns-in-Ok-say_for-clause-spoke g c = λ q ts pieces step same a.
       speaking =
           spoken-is q g.D.Desk.vouches c.args.self.now _ (g.E.Edge.view c.args.edge.now) (g.E.Edge.view c.submit.new.edge) (g.E.Edge.view c.say_for.new.edge)
           (g.D.Desk.view c.args.desk.now) (g.D.Desk.view c.submit.new.desk) (g.C.Source.sending c.args.control.now).sent (g.C.Source.sending c.say_for.new.link).sent
-          ts pieces (said_pieces q.session (epsv_port c.args.is_epsv e.decision) c.in-Ok.told.earlier e.actions) step c.in-Ok.told.earlier e c.args.kind a same n c.say_for.ensures.edge
+          ts pieces (said_pieces q.session (epsv_port c.args.is_epsv e.decision) c.in-Ok.told.earlier e.actions) step c.in-Ok.told.earlier e c.args.kind a same n c.in-Ok-say_for.ensures.calls.edge
           (record { session = w.session; raw = w.raw; client = w.client; host = w.host; range = w.range; active = w.active; login = w.login; name = w.name; cwd = w.cwd })
           c.learn.ensures.over
           (subst (λ (s : ℕ). Writes (g.C.Source.sending c.args.control.now).sent (g.C.Source.sending c.say_for.new.link).sent (piece_text (said_pieces s (epsv_port c.args.is_epsv e.decision) c.in-Ok.told.earlier e.actions))) session (rw (c.epsv_port-port.ensures, c.as_slice.ensures, c.as_slice-2.ensures) at c.in-Ok-say_for.ensures.wrote))
@@ -67,6 +67,6 @@ returns-clause-spoke g c = λ q ts pieces step same a.
       answer = n.answer;
       front = front-after q g.D.Desk.vouches c.args.self.now _ (g.E.Edge.view c.args.edge.now) (g.E.Edge.view c.submit.new.edge) (g.E.Edge.view c.say_for.new.edge)
           (g.D.Desk.view c.args.desk.now) (g.D.Desk.view c.submit.new.desk) (g.C.Source.sending c.args.control.now).sent (g.C.Source.sending c.say_for.new.link).sent
-          ts pieces (said_pieces q.session (epsv_port c.args.is_epsv e.decision) c.in-Ok.told.earlier e.actions) step c.in-Ok.told.earlier e c.args.kind a same n c.say_for.ensures.edge.count c.learn.ensures.session c.learn.ensures.over
+          ts pieces (said_pieces q.session (epsv_port c.args.is_epsv e.decision) c.in-Ok.told.earlier e.actions) step c.in-Ok.told.earlier e c.args.kind a same n c.in-Err-say_for.ensures.calls.edge.count c.learn.ensures.session c.learn.ensures.over
           (subst (λ (s : ℕ). SaysPieces (g.C.Source.sending c.args.control.now).sent (g.C.Source.sending c.say_for.new.link).sent (g.E.Edge.view c.submit.new.edge).paused (g.E.Edge.view c.say_for.new.edge).paused [] (said_pieces s (epsv_port c.args.is_epsv e.decision) c.in-Ok.told.earlier e.actions)) session (rw (c.epsv_port-port.ensures, c.as_slice.ensures, c.as_slice-2.ensures) at c.in-Err-say_for.ensures.front));
     })
