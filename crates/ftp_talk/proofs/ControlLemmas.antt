@@ -17,7 +17,7 @@ use Rattle.ftp_events.specs.declared.event.HubEvent.{HubEvent}
 use Rattle.ftp_events.specs.Log.{new_number}
 use Rattle.ftp_control.specs.Writing.{WritesFront}
 use Rattle.ftp_control.specs.Lines.{Rest}
-use Rattle.ftp_shared.specs.Desk.{DeskView, Appends, RisesBy}
+use Rattle.ftp_shared.specs.Desk.{DeskView, Appends}
 use Rattle.ftp_talk.specs.Saying.{greeting_line}
 use Rattle.ftp_talk.specs.declared.control_session.Peer.{Peer}
 use Rattle.ftp_talk.specs.declared.control_session.ControlSession.{ControlSession}
@@ -51,7 +51,7 @@ number-of (kind.Proxied number raw trace) a d peer h = ap session_in h
 number-of _ a d peer h = cc
 
 -- what is known of a session that was opened
-pub knows-open : (e : Entry) (peer : Peer) (start : Start) (state : ControlSession) →
+knows-open : (e : Entry) (peer : Peer) (start : Start) (state : ControlSession) →
     e.decision ≡ Opened → Begins state peer start.desk.options → Knows (ground_of e peer start) state (e ∷ [])
 knows-open e peer start state opened t =
     record {
@@ -69,16 +69,18 @@ knows-open e peer start state opened t =
 seen-none : (g : Ground) (storage : ℕ) → g.start.desk.faults ≤ storage → IsSeen g [] g.start.edge storage
 seen-none g storage le = record { fed = told_self g.start.edge.feed (λ f is. tt); edge = λ lt. omega arith; storage = λ lt. omega arith }
 
-kept-open : (e : Entry) (peer : Peer) (a : Answer) (start : Start) (desk1 : DeskView) (earlier : List (ℕ × Reply)) →
-    e.decision ≡ Opened → peer_of e.event.kind a ≡ Some peer →
-    IfSome start.desk.journal (λ J. Appends J start.desk desk1 earlier e) →
-    Keeps (ground_of e peer start) desk1 []
-kept-open e peer a start desk1 earlier opened named added = by_journal start.desk.journal added where
+-- what the desk keeps of the session is the opening alone
+kept-open : (opening : HubEvent) (a : Answer) (start : Start) (opened : ControlSession) (desk1 : DeskView) (h : HasOpened opening a start opened desk1) →
+    Keeps (ground_of h.entry h.peer start) desk1 []
+kept-open opening a start opened desk1 h = by_journal start.desk.journal h.appended where
+  named : peer_of h.entry.event.kind a ≡ Some h.peer
+  named = ap (λ (x : HubEvent). peer_of x.kind a) h.submitted.event ∙ h.named
+
   by_journal : (o : Option (List Entry)) →
-      IfSome o (λ J. Appends J start.desk desk1 earlier e) →
-      IfSome o (λ J. (desk1.journal ≡ Some ((e ∷ []) ++ J)) × (desk1.outbox peer.session ≡ []) × Unit {0})
-  by_journal None h = tt
-  by_journal (Some J) h = (h.journal, h.fresh peer.session (number-of e.event.kind a e.decision peer named) opened, tt)
+      IfSome o (λ J. Appends J start.desk desk1 h.submitted.earlier h.entry) →
+      IfSome o (λ J. (desk1.journal ≡ Some ((h.entry ∷ []) ++ J)) × (desk1.outbox h.peer.session ≡ []) × Unit {0})
+  by_journal None added = tt
+  by_journal (Some J) added = (added.journal, added.fresh h.peer.session (number-of h.entry.event.kind a h.entry.decision h.peer named) h.decision, tt)
 
 pub journal-open : (o : Option (List Entry)) (e : Entry) (desk desk1 : DeskView) (earlier : List (ℕ × Reply)) →
     IfSome o (λ J. Appends J desk desk1 earlier e) → IfSome o (λ J. desk1.journal ≡ Some ((e ∷ []) ++ J))
@@ -94,32 +96,29 @@ abbrev parted-none : (g : Ground) (rest : List ℕ) → IsInput g.start.input re
 parted-none g rest input = record { parts = []; cut = input; ruled = tt; heard = refl; long = λ h. cc }
 
 -- the greeting was sent, and the first line is due
-pub begin-talking : (e : Entry) (peer : Peer) (a : Answer) (start : Start) (desk1 : DeskView) (earlier : List (ℕ × Reply)) (state : ControlSession) (sent1 left1 : Option (List ℕ)) →
-    e.decision ≡ Opened → peer_of e.event.kind a ≡ Some peer →
-    IfSome start.desk.journal (λ J. Appends J start.desk desk1 earlier e) →
-    RisesBy 1 start.desk.share desk1.share →
-    desk1.options ≡ start.desk.options → desk1.files ≡ start.desk.files → start.desk.faults ≤ desk1.faults → desk1.refused ≡ start.desk.refused →
-    Knows (ground_of e peer start) state (e ∷ []) → state.is_over ≡ false →
+pub begin-talking : (opening : HubEvent) (a : Answer) (start : Start) (opened state : ControlSession) (desk1 : DeskView) (sent1 left1 : Option (List ℕ))
+    (h : HasOpened opening a start opened desk1) →
+    ((g : Ground) (es : List Entry) → Knows g opened es → Knows g state es) → state.is_over ≡ opened.is_over →
     Writes start.sent sent1 (greeting_line start.desk.options.greeting) →
     left1 ≡ start.input →
-    Talking (ground_of e peer start) state start.edge desk1 sent1 [] [] left1
-begin-talking e peer a start desk1 earlier state sent1 left1 opened named added share options files count refused knows live wrote is =
-    let g = ground_of e peer start in
+    Talking (ground_of h.entry h.peer start) state start.edge desk1 sent1 [] [] left1
+begin-talking opening a start opened state desk1 sent1 left1 h known over wrote is =
+    let g = ground_of h.entry h.peer start in
     let r = read-begin start.input in
     record {
       rest = r.0;
       standing = record {
         parted = parted-none g r.0 r.1;
         speaking = record {
-          seen = seen-none g desk1.faults count;
+          seen = seen-none g desk1.faults h.count;
           feed = told_self start.edge.feed (λ f is. is);
-          known = knows;
-          over = live;
-          ground = record { meaning = refl; options = options; files = files; journal = journal-open start.desk.journal e start.desk desk1 earlier added };
-          kept = kept-open e peer a start desk1 earlier opened named added;
+          known = known g (h.entry ∷ []) (knows-open h.entry h.peer start opened h.decision h.begins);
+          over = over ∙ h.begins.live;
+          ground = record { meaning = refl; options = h.options; files = h.files; journal = journal-open start.desk.journal h.entry start.desk desk1 h.submitted.earlier h.appended };
+          kept = kept-open opening a start opened desk1 h;
           vouched = λ v. tt;
-          share = share;
-          refused = omega (arith, refused);
+          share = h.share;
+          refused = omega (arith, h.unrefused);
           written = subst (Writes start.sent sent1) (sym (append-nil (greeting_line start.desk.options.greeting))) wrote;
           paused = paused-none start.edge.paused start.edge.paused refl;
         };
@@ -129,35 +128,32 @@ begin-talking e peer a start desk1 earlier state sent1 left1 opened named added 
     }
 
 -- a part of the greeting was sent
-pub begin-cut : (e : Entry) (peer : Peer) (a : Answer) (start : Start) (desk1 : DeskView) (earlier : List (ℕ × Reply)) (state : ControlSession) (sent1 : Option (List ℕ)) →
-    e.decision ≡ Opened → peer_of e.event.kind a ≡ Some peer →
-    IfSome start.desk.journal (λ J. Appends J start.desk desk1 earlier e) →
-    RisesBy 1 start.desk.share desk1.share →
-    desk1.options ≡ start.desk.options → start.desk.faults ≤ desk1.faults → desk1.refused ≡ start.desk.refused →
-    state.session ≡ peer.session → state.is_over ≡ false →
+pub begin-cut : (opening : HubEvent) (a : Answer) (start : Start) (opened state : ControlSession) (desk1 : DeskView) (sent1 : Option (List ℕ))
+    (h : HasOpened opening a start opened desk1) →
+    ((g : Ground) (es : List Entry) → Knows g opened es → Knows g state es) → state.is_over ≡ opened.is_over →
     WritesFront start.sent sent1 (greeting_line start.desk.options.greeting) →
-    IsCut (ground_of e peer start) state start.edge desk1 sent1 []
-begin-cut e peer a start desk1 earlier state sent1 opened named added share options count refused session live wrote =
-    let g = ground_of e peer start in
+    IsCut (ground_of h.entry h.peer start) state start.edge desk1 sent1 []
+begin-cut opening a start opened state desk1 sent1 h known over wrote =
+    let g = ground_of h.entry h.peer start in
     let r = read-begin start.input in
     record {
       rest = r.0;
       parted = parted-none g r.0 r.1;
       front = record {
-        session = session;
-        over = live;
-        options = options;
-        seen = seen-none g desk1.faults count;
-        kept = kept-open e peer a start desk1 earlier opened named added;
+        session = (known g (h.entry ∷ []) (knows-open h.entry h.peer start opened h.decision h.begins)).session;
+        over = over ∙ h.begins.live;
+        options = h.options;
+        seen = seen-none g desk1.faults h.count;
+        kept = kept-open opening a start opened desk1 h;
         vouched = λ v. tt;
-        share = share;
-        refused = omega (arith, refused);
+        share = h.share;
+        refused = omega (arith, h.unrefused);
         written = pieces-none start.sent sent1 start.edge.paused start.edge.paused (greeting_line start.desk.options.greeting) [] wrote refl;
       };
     }
 
 -- what was said of each end
-pub serves-with : (may : MayDoSo) (first : Option (List ℕ)) (x : ServeEnd) (opening : HubEvent) (a : Answer) (start : Start) (edge : EdgeView) (desk : DeskView) (sent : Option (List ℕ)) →
+serves-with : (may : MayDoSo) (first : Option (List ℕ)) (x : ServeEnd) (opening : HubEvent) (a : Answer) (start : Start) (edge : EdgeView) (desk : DeskView) (sent : Option (List ℕ)) →
     IsServedWith may first x opening a start edge desk sent → ServesWith may first x opening a start edge desk sent
 serves-with may first end.Ended opening a start edge desk sent h = h
 serves-with may first (end.Refused d) opening a start edge desk sent h = absurd h.outcome
@@ -184,10 +180,13 @@ serves-unopened may first end.OutOfMemory opening a start desk h = inl h
 serves-unopened may first end.Exhausted opening a start desk h = inl h
 serves-unopened may first _ opening a start desk h = absurd h
 
--- the peer is that of the entry's event
-pub named-open : (opening : HubEvent) (a : Answer) (start : Start) (state : ControlSession) (desk : DeskView) (h : HasOpened opening a start state desk) →
-    peer_of h.entry.event.kind a ≡ Some h.peer
-named-open opening a start state desk h = ap (λ (x : HubEvent). peer_of x.kind a) h.submitted.event ∙ h.named
+-- a talk that was opened is served as it came out
+pub serves-opened : (may : MayDoSo) (first : Option (List ℕ)) (x : ServeEnd) (opening : HubEvent) (a : Answer) (start : Start) (opened : ControlSession) (desk1 : DeskView)
+    (edge : EdgeView) (desk : DeskView) (sent : Option (List ℕ)) (h : HasOpened opening a start opened desk1) →
+    OutcomeWith may first x (ground_of h.entry h.peer start) edge desk sent → ServesWith may first x opening a start edge desk sent
+serves-opened may first x opening a start opened desk1 edge desk sent h outcome =
+    serves-with may first x opening a start edge desk sent
+    (record { entry = h.entry; peer = h.peer; submitted = h.submitted; decision = h.decision; named = h.named; outcome = outcome })
 
 -- an end that is no fault is neither
 pub no-fault : (x : ServeEnd) → is_fault x ≡ false → (x ≡ end.ReadFault → ⊥) × (x ≡ end.WriteFault → ⊥)

@@ -1,4 +1,4 @@
-use Rattle.std.proofs.Common.{ℕ, Bool, List, [], ◌∷◌, Option, ap, subst, ◌∙◌, refl, Err}
+use Rattle.std.proofs.Common.{ℕ, Bool, List, [], Option, ap, subst, ◌∙◌, refl, Err}
 use Rattle.ftp_base.specs.declared.login.AuthAnswer.{AuthAnswer}
 use Rattle.ftp_base.specs.declared.net.IpAddr.{IpAddr}
 use Rattle.ftp_base.specs.Edge.{EdgeView}
@@ -11,7 +11,7 @@ use Rattle.ftp_talk.specs.Ground.{Start}
 use Rattle.ftp_talk.specs.Control.{ground_of}
 use Rattle.ftp_talk.specs.Speaking.{end_by}
 use Rattle.ftp_talk.proofs.EndLemmas.{ends-front}
-use Rattle.ftp_talk.proofs.ControlLemmas.{knows-open, named-open, begin-talking, begin-cut, ends-with, serves-with, serves-unopened, no-fault, halt-ends, halt-sound, end-sound}
+use Rattle.ftp_talk.proofs.ControlLemmas.{begin-talking, begin-cut, ends-with, serves-opened, serves-unopened, no-fault, halt-ends, halt-sound, end-sound}
 use Rattle.ftp_talk.proofs.control.serve_control_with.Goals as goal
 
 -- how all stood before the session was opened
@@ -42,27 +42,16 @@ pub returns-in-Err-greet-clause-served : goal.returns-in-Err-greet-clause-served
 returns-in-Err-greet-clause-served g c =
     let start = start_of (g.E.Edge.view c.args.edge.now) (g.D.Desk.view c.args.desk.now) (g.C.Source.left c.args.control.now) (g.C.Source.sending c.args.control.now).sent (g.A.Authenticator.may_answer c.args.auth.now) g.C.Control.is_always_ready g.D.Desk.vouches g.D.Desk.draws_next in
     let desk1 = g.D.Desk.view c.open_session.new.desk in
-    let state = c.in-Ok-open_session.state in
     let h = c.in-Ok-open_session.ensures.opened start in
     let ground = ground_of h.entry h.peer start in
-    let named = named-open c.args.opening c.args.answer start state desk1 h in
-    let knows = c.greet.ensures.known ground (h.entry ∷ []) (knows-open h.entry h.peer start state h.decision h.begins) in
-    let live = c.greet.ensures.over ∙ h.begins.live in
     let sent1 = (g.C.Source.sending c.greet.new.link).sent in
     let front = subst (λ (o : Options). WritesFront start.sent sent1 (greeting_line o.greeting)) (c.options.ensures.told ∙ h.options) c.in-Err-greet.ensures.front in
-    let cut = begin-cut h.entry h.peer c.args.answer start desk1 h.submitted.earlier c.greet.new.self sent1 h.decision named h.appended h.share h.options h.count h.unrefused knows.session live front in
+    let cut = begin-cut c.args.opening c.args.answer start c.in-Ok-open_session.state c.greet.new.self desk1 sent1 h c.greet.ensures.known c.greet.ensures.over front in
     let edge2 = g.E.Edge.view c.leave.new.edge in
     let desk2 = g.D.Desk.view c.leave.new.desk in
-    serves-with (g.X.Extras.may c.args.extras.now) (g.X.Extras.pending c.args.extras.now) c.end_by.result c.args.opening c.args.answer start edge2 desk2 sent1
-    (record {
-      entry = h.entry;
-      peer = h.peer;
-      submitted = h.submitted;
-      decision = h.decision;
-      named = h.named;
-      outcome = ends-with (g.X.Extras.may c.args.extras.now) (g.X.Extras.pending c.args.extras.now) c.end_by.result ground edge2 desk2 sent1 [] tt
-          (rw c.end_by.ensures (ends-front c.from.result ground edge2 desk2 sent1 [] (c.leave.ensures ground [] sent1 (refl, refl) cut)));
-    })
+    serves-opened (g.X.Extras.may c.args.extras.now) (g.X.Extras.pending c.args.extras.now) c.end_by.result c.args.opening c.args.answer start c.in-Ok-open_session.state desk1 edge2 desk2 sent1 h
+    (ends-with (g.X.Extras.may c.args.extras.now) (g.X.Extras.pending c.args.extras.now) c.end_by.result ground edge2 desk2 sent1 [] tt
+    (rw c.end_by.ensures (ends-front c.from.result ground edge2 desk2 sent1 [] (c.leave.ensures ground [] sent1 (refl, refl) cut))))
 
 pub returns-in-Err-greet-clause-read_fault : goal.returns-in-Err-greet-clause-read_fault
 returns-in-Err-greet-clause-read_fault g c = λ e.
@@ -90,22 +79,11 @@ pub returns-clause-served : goal.returns-clause-served
 returns-clause-served g c =
     let start = start_of (g.E.Edge.view c.args.edge.now) (g.D.Desk.view c.args.desk.now) (g.C.Source.left c.args.control.now) (g.C.Source.sending c.args.control.now).sent (g.A.Authenticator.may_answer c.args.auth.now) g.C.Control.is_always_ready g.D.Desk.vouches g.D.Desk.draws_next in
     let desk1 = g.D.Desk.view c.open_session.new.desk in
-    let state = c.in-Ok-open_session.state in
     let h = c.in-Ok-open_session.ensures.opened start in
-    let ground = ground_of h.entry h.peer start in
-    let named = named-open c.args.opening c.args.answer start state desk1 h in
-    let knows = c.greet.ensures.known ground (h.entry ∷ []) (knows-open h.entry h.peer start state h.decision h.begins) in
-    let live = c.greet.ensures.over ∙ h.begins.live in
     let sent1 = (g.C.Source.sending c.greet.new.link).sent in
     let wrote = subst (λ (o : Options). Writes start.sent sent1 (greeting_line o.greeting)) (c.options.ensures.told ∙ h.options) c.in_default-greet.ensures.wrote in
-    let talking = begin-talking h.entry h.peer c.args.answer start desk1 h.submitted.earlier c.greet.new.self sent1 (g.C.Source.left c.greet.new.link)
-    h.decision named h.appended h.share h.options h.files h.count h.unrefused knows live wrote c.in_default-greet.ensures.link.left in
-    serves-with (g.X.Extras.may c.args.extras.now) (g.X.Extras.pending c.args.extras.now) c.serve_lines.result c.args.opening c.args.answer start (g.E.Edge.view c.serve_lines.new.edge) (g.D.Desk.view c.serve_lines.new.desk) (g.C.Source.sending c.serve_lines.new.control).sent
-    (record {
-      entry = h.entry;
-      peer = h.peer;
-      submitted = h.submitted;
-      decision = h.decision;
-      named = h.named;
-      outcome = c.serve_lines.ensures.ended ground (record { about = (refl, refl); ready = refl; answers = refl }) talking;
-    })
+    serves-opened (g.X.Extras.may c.args.extras.now) (g.X.Extras.pending c.args.extras.now) c.serve_lines.result c.args.opening c.args.answer start c.in-Ok-open_session.state desk1
+    (g.E.Edge.view c.serve_lines.new.edge) (g.D.Desk.view c.serve_lines.new.desk) (g.C.Source.sending c.serve_lines.new.control).sent h
+    (c.serve_lines.ensures.ended (ground_of h.entry h.peer start) (record { about = (refl, refl); ready = refl; answers = refl })
+    (begin-talking c.args.opening c.args.answer start c.in-Ok-open_session.state c.greet.new.self desk1 sent1 (g.C.Source.left c.greet.new.link) h
+    c.greet.ensures.known c.greet.ensures.over wrote c.in_default-greet.ensures.link.left))
