@@ -12,16 +12,6 @@ pub on_ok-all : {T E P : Type 0} (r : Result T E) → P → OnOk r P
 on_ok-all (Ok x) p = p
 on_ok-all (Err e) p = tt
 
--- what follows from what is true at a value is true there
-pub on_ok-then : {T E P Q : Type 0} (r : Result T E) → (P → Q) → OnOk r P → OnOk r Q
-on_ok-then (Ok x) f h = f h
-on_ok-then (Err e) f h = tt
-
--- and so at an error
-pub on_err-then : {T E P Q : Type 0} (r : Result T E) → (P → Q) → OnErr r P → OnErr r Q
-on_err-then (Ok x) f h = tt
-on_err-then (Err e) f h = f h
-
 -- what is true of a success is true of the value that is left of it
 pub if_ok-some : {T E : Type 0} (P : T → Type 0) (r : Result T E) → IfOk r P → IfSome (result_ok r) P
 if_ok-some P (Ok x) h = h

@@ -1,4 +1,5 @@
 use Rattle.std.proofs.Common.{◌≡◌, ◌∙◌, ℕ, ◌+◌, ap, subst, true, arith}
+use Rattle.std.proofs.lemmas.Result.{on_ok_weaker, on_err_weaker}
 use Rattle.std.specs.Bool.{then_some}
 use Rattle.ftp_base.specs.Outside.{HasRisen}
 use Rattle.ftp_hub.specs.declared.prepare.PrepareError.TheVariants.{Exhausted}
@@ -6,7 +7,7 @@ use Rattle.ftp_shared.specs.Desk.{IsVouched, RisesBy}
 use Rattle.ftp_shared.specs.Next.{IsTurnAt}
 use Rattle.ftp_shared.proofs.DeskLemmas.{rises-told}
 use Rattle.ftp_shared.proofs.TurnLemmas.{turn-answer, turn-event, turn-vouched}
-use Rattle.ftp_workers.proofs.ResultLemmas.{on_err-all, on_ok-all, on_ok-then, on_err-then}
+use Rattle.ftp_workers.proofs.ResultLemmas.{on_err-all, on_ok-all}
 use Rattle.ftp_workers.proofs.TellingLemmas.{if_ok-told, err_of-told, on_ok-given}
 use Rattle.ftp_workers.proofs.desk.ServerDeskDesk.submit.Goals as goal
 
@@ -63,11 +64,11 @@ returns-clause-same_share g c =
 
 -- what was refused is counted by the telling alone
 pub returns-clause-unrefused : goal.returns-clause-unrefused
-returns-clause-unrefused g c = on_ok-then c.tell.result (λ same. same ∙ c.accept_before.ensures.refused) c.tell.ensures.unrefused
+returns-clause-unrefused g c = on_ok_weaker c.tell.result (λ same. same ∙ c.accept_before.ensures.refused) c.tell.ensures.unrefused
 
 pub returns-clause-refused_rose : goal.returns-clause-refused_rose
 returns-clause-refused_rose g c =
-    on_err-then c.tell.result (λ rose. subst (λ (n : ℕ). HasRisen n c.tell.new.self.refused) c.accept_before.ensures.refused rose) c.tell.ensures.refused_rose
+    on_err_weaker c.tell.result (λ rose. subst (λ (n : ℕ). HasRisen n c.tell.new.self.refused) c.accept_before.ensures.refused rose) c.tell.ensures.refused_rose
 
 pub returns-clause-exhausted : goal.returns-clause-exhausted
 returns-clause-exhausted g c = λ e.
