@@ -14,7 +14,9 @@ use ftp_base::Edge;
 use ftp_events::{Answer, HubEvent};
 use ftp_options::ListenerMode;
 use ftp_shared::JournalHub;
-use ftp_system::{Ahead, Gathered, LIMIT, SocketLink, std_address, told_address};
+use ftp_system::{
+    Ahead, ControlHandle, Gathered, LIMIT, SocketControl, SocketLink, std_address, told_address,
+};
 use mio::net::TcpStream;
 use std::net;
 use std::net::{IpAddr, SocketAddr};
@@ -64,9 +66,15 @@ impl<R: WorkerRuntime, H: JournalHub + Drop, S: Services> Worker<R, H, S> {
             &mut link,
             &mut self.edge,
         )?;
+        let link = self.behind_header(link)?;
+        Some((event, answer, link))
+    }
+
+    // A connection whose header was read, with what came behind that. None where memory ran out.
+    fn behind_header(&self, link: Gathered<SocketLink<R>>) -> Option<PendingConnection> {
         let (link, _, ahead) = link.into_rest(self.alloc).ok()?;
         let stream = link.into_stream();
-        Some((event, answer, PendingConnection { stream, ahead }))
+        Some(PendingConnection { stream, ahead })
     }
 
     // Reads the header of a connection, and serves its session or keeps it for a job.
@@ -121,20 +129,23 @@ impl<R: WorkerRuntime, H: JournalHub + Drop, S: Services> Worker<R, H, S> {
     )
         requires opening { is_opening event.kind ≡ true }
     {
+        if let Some((control, handle, at)) = self.proxied_control(link) {
+            let _ = self.talk(control, handle, number, at, event, answer);
+        }
+    }
+
+    // The control connection over one whose header was read, what wakes its loop, and its address here.
+    fn proxied_control(
+        &self,
+        link: PendingConnection,
+    ) -> Option<(Ahead<SocketControl>, ControlHandle, IpAddr)> {
         let PendingConnection { stream, ahead } = link;
-        let Ok(local) = stream.local_addr() else {
-            return;
-        };
-        let Some(control) = self.control(net::TcpStream::from(stream)) else {
-            return;
-        };
-        let Ok(handle) = control.handle() else {
-            return;
-        };
+        let local = stream.local_addr().ok()?;
+        let control = self.control(net::TcpStream::from(stream))?;
+        let handle = control.handle().ok()?;
         let (mut control, mut ahead) = (control, ahead);
         control.keep_text(&mut ahead);
-        let control = Ahead::new(control, ahead);
-        let _ = self.talk(control, handle, number, local.ip(), event, answer);
+        Some((Ahead::new(control, ahead), handle, local.ip()))
     }
 
     // Keeps a data connection for its job, and has its event decided; it is closed where no session takes it.
