@@ -12,7 +12,9 @@ use ftp_base::Spawner;
 use ftp_options::{Indicator, Options, ServerError, Shutdown};
 use ftp_shared::{CutHub, JournalHub, Serving, SharedHub};
 use ftp_system::{Depot, Doors, Front, ServerRuntime};
-use ftp_workers::{AcceptorHandle, ServerDesk, ServerState, Services, SharedServices, StateOf};
+use ftp_workers::{
+    AcceptorHandle, DeskOf, ServerDesk, ServerState, Services, SharedServices, StateOf,
+};
 use std::alloc::{AllocError, Global};
 use std::sync::Arc;
 use std::sync::ledger::Blank;
@@ -66,6 +68,16 @@ pub(crate) fn new_state<H: JournalHub + Drop, S: Services>(
         Ok(state) => Ok(state),
         Err(_) => Err(AllocError),
     }
+}
+
+/// A desk over a server. None where no pass is left, or memory ran out.
+pub(crate) fn desk_over<R: ServerRuntime, H: JournalHub + Drop, S: Services>(
+    rt: &R,
+    state: &Arc<StateOf<H, S>, Global>,
+) -> Option<DeskOf<R, H, S>> {
+    let pass = state.share(rt)?;
+    let theirs = Arc::try_clone(state).ok()?;
+    Some(ServerDesk::new(*rt, theirs, pass))
 }
 
 // Accepts connections until a shutdown is asked for. It gives the moment of asking, which is the front's latest.
@@ -262,13 +274,12 @@ where
     let Ok(state) = new_state::<H, S>(alloc, options, hub, server_parts, acceptor) else {
         return Err(ServerError::OutOfMemory);
     };
-    let (Some(pass), Ok(theirs)) = (state.share(rt), Arc::try_clone(&state)) else {
+    let Some(desk) = desk_over::<R, H, S>(rt, &state) else {
         return Err(ServerError::OutOfMemory);
     };
     if !spawn_worker::<R, H, S, P>(rt, &state, spawner) {
         return Err(ServerError::Listener);
     }
-    let desk = ServerDesk::new(*rt, theirs, pass);
     let mut poll = poll;
     let mut acceptor = Acceptor::<R, H, S>::new(
         *rt,

@@ -81,15 +81,7 @@ impl<S: Storage + Send + Drop + 'static> Server<S> {
             options,
             handlers: _,
         } = built;
-        Server {
-            alloc,
-            options,
-            limits: usual_limits(),
-            every: None,
-            parts,
-            feed: None,
-            runs_small: false,
-        }
+        fresh(alloc, options, parts)
     }
 
     /// A server without handlers of SITE commands.

@@ -6,13 +6,13 @@ ghost use Rattle.ftp_options.specs.Modes.{is_legacy};
 
 use crate::listening::AcceptPoll;
 use crate::parts::{BoxedServices, ServerParts};
-use crate::running::{PARTS, new_state};
+use crate::running::{PARTS, desk_over, new_state};
 use crate::spawning::spawn_wanted;
 use ftp_options::{ListenerMode, Options, ServerError};
 use ftp_shared::{CutHub, JournalHub, Serving, SharedHub};
 use ftp_system::{Depot, Front, OpenGate, ServerRuntime, SystemFront, SystemThreads};
 use ftp_talk::ServeEnd;
-use ftp_workers::{DeskOf, ServerDesk, Services, SharedServices, StateOf, Worker};
+use ftp_workers::{DeskOf, Services, SharedServices, StateOf, Worker};
 use std::alloc::Global;
 use std::marker::Brand;
 use std::net::{SocketAddr, TcpStream};
@@ -171,10 +171,9 @@ where
     let (Some(pass), Ok(theirs)) = (state.share(rt), Arc::try_clone(&state)) else {
         return Err(ServerError::OutOfMemory);
     };
-    let (Some(own), Ok(ours)) = (state.share(rt), Arc::try_clone(&state)) else {
+    let Some(desk) = desk_over::<R, H, S>(rt, &state) else {
         return Err(ServerError::OutOfMemory);
     };
-    let desk = ServerDesk::new(*rt, ours, own);
     let mut poll = poll;
     let over = AtomicBool::new(false);
     let is_over = &over;
