@@ -1,8 +1,7 @@
 //! The life of a server: it accepts connections until a shutdown is asked for, and is then drained.
 
-ghost use Rattle.std.specs.Prelude.{◌≡◌, ◌≢◌, ◌≤◌, ◌<◌, ◌+◌, ◌⊎◌, None, Some, IfErr, IsErrOf, IsSome, OnOk};
-ghost use Rattle.ftp_base.specs.Outside.{HasRisen};
-ghost use Rattle.ftp_listen.specs.Causes.{IsPastGrace};
+ghost use Rattle.std.specs.Prelude.{◌≡◌, ◌≢◌, ◌≤◌, ◌<◌, ◌+◌, ◌⊎◌, None, Some, IfErr, IsErrOf, IsSome};
+ghost use Rattle.ftp_listen.specs.Causes.{HasRun};
 
 use crate::acceptor::Acceptor;
 use crate::listening::{AcceptPoll, ListeningSockets};
@@ -197,10 +196,7 @@ where
     requires all { blank.parts ≡ PARTS }
     requires options { options ≡ L.options }
     requires some { every ≢ Some 0 }
-    ensures ok { OnOk result (IsSome (I.asked indicator.new)) }
-    ensures listener { IsErrOf result ServerError.Listener → HasRisen (P.faults spawner.old) (P.faults spawner.new) }
-    ensures shutdown { IsErrOf result ServerError.Shutdown → I.asked indicator.old ≡ None → IsPastGrace (I.asked indicator.new) (F.latest front.new) }
-    ensures has_asked { IsErrOf result ServerError.Shutdown → IsSome (I.asked indicator.new) }
+    ensures run { HasRun result (I.asked indicator.old) (I.asked indicator.new) (F.latest front.new) (P.faults spawner.old) (P.faults spawner.new) }
     ensures only { IfErr result (λ e. (e ≡ ServerError.Listener) ⊎ ((e ≡ ServerError.Shutdown) ⊎ (e ≡ ServerError.OutOfMemory))) }
     ensures front { F.faults front.old ≤ F.faults front.new }
 {
@@ -260,10 +256,7 @@ where
     <S::Depot as Depot>::Store: Send + 'static,
     <S::Depot as Depot>::Words: Send + 'static,
     requires options { options ≡ H.options }
-    ensures ok { OnOk result (IsSome (I.asked indicator.new)) }
-    ensures listener { IsErrOf result ServerError.Listener → HasRisen (P.faults spawner.old) (P.faults spawner.new) }
-    ensures shutdown { IsErrOf result ServerError.Shutdown → I.asked indicator.old ≡ None → IsPastGrace (I.asked indicator.new) (F.latest front.new) }
-    ensures has_asked { IsErrOf result ServerError.Shutdown → IsSome (I.asked indicator.new) }
+    ensures run { HasRun result (I.asked indicator.old) (I.asked indicator.new) (F.latest front.new) (P.faults spawner.old) (P.faults spawner.new) }
     ensures only { IfErr result (λ e. (e ≡ ServerError.Listener) ⊎ ((e ≡ ServerError.Shutdown) ⊎ (e ≡ ServerError.OutOfMemory))) }
     ensures front { F.faults front.old ≤ F.faults front.new }
 {

@@ -3,7 +3,7 @@
 ghost use Rattle.std.specs.Prelude.{◌≡◌, ◌≢◌, ◌↔◌, ◌⊎◌, None, Some, true, false, IfErr, IfOk, IsErrOf, IsSome, OnOk};
 ghost use Rattle.ftp_base.specs.Outside.{HasRisen};
 ghost use Rattle.ftp_options.specs.Modes.{is_legacy};
-ghost use Rattle.ftp_listen.specs.Causes.{WritesNone, WritesV6, IsPastGrace, is_of_listening, is_of_running};
+ghost use Rattle.ftp_listen.specs.Causes.{WritesNone, WritesV6, HasRun, IsPastGrace, is_of_listening, is_of_running};
 
 mod settings;
 
@@ -318,11 +318,8 @@ fn listen_boxed<
     indicator: &mut I,
 ) -> Result<(), ServerError>
     requires some { every ≢ Some 0 }
-    ensures ok { OnOk result (IsSome (I.asked indicator.new)) }
     ensures io { IsErrOf result ServerError.Io → HasRisen (F.faults front.old) (F.faults front.new) }
-    ensures listener { IsErrOf result ServerError.Listener → HasRisen (P.faults spawner.old) (P.faults spawner.new) }
-    ensures shutdown { IsErrOf result ServerError.Shutdown → I.asked indicator.old ≡ None → IsPastGrace (I.asked indicator.new) (F.latest front.new) }
-    ensures has_asked { IsErrOf result ServerError.Shutdown → IsSome (I.asked indicator.new) }
+    ensures run { HasRun result (I.asked indicator.old) (I.asked indicator.new) (F.latest front.new) (P.faults spawner.old) (P.faults spawner.new) }
     ensures only { IfErr result (λ e. is_of_running e ≡ true) }
 {
     listen_at::<R, BoxedServices<SharedDepot<R, S>, G>, P, F, I>(
@@ -354,11 +351,8 @@ where
     <S::Depot as Depot>::Store: Send + 'static,
     <S::Depot as Depot>::Words: Send + 'static,
     requires some { every ≢ Some 0 }
-    ensures ok { OnOk result (IsSome (I.asked indicator.new)) }
     ensures io { IsErrOf result ServerError.Io → HasRisen (F.faults front.old) (F.faults front.new) }
-    ensures listener { IsErrOf result ServerError.Listener → HasRisen (P.faults spawner.old) (P.faults spawner.new) }
-    ensures shutdown { IsErrOf result ServerError.Shutdown → I.asked indicator.old ≡ None → IsPastGrace (I.asked indicator.new) (F.latest front.new) }
-    ensures has_asked { IsErrOf result ServerError.Shutdown → IsSome (I.asked indicator.new) }
+    ensures run { HasRun result (I.asked indicator.old) (I.asked indicator.new) (F.latest front.new) (P.faults spawner.old) (P.faults spawner.new) }
     ensures only { IfErr result (λ e. is_of_running e ≡ true) }
 {
     let doors = match doors_at(front, at, &options) {
