@@ -17,6 +17,20 @@ struct Waiting<T: Drop> {
     closed: bool,
 }
 
+impl<T: Drop> Waiting<T> {
+    // What is given at once: the oldest value, or none at the end. Where there is neither one thread more sleeps.
+    fn given(&mut self) -> Option<Option<T>> {
+        if let Some(value) = self.values.pop_front() {
+            return Some(Some(value));
+        }
+        if self.closed {
+            return Some(None);
+        }
+        self.idle = self.idle.saturating_add(1);
+        None
+    }
+}
+
 /// Why a value was not put into a queue. The value comes back.
 #[derive(Drop)]
 pub enum PutError<T> {
@@ -75,13 +89,9 @@ impl<T: Drop> Queue<T> {
     pub fn take<R: Wait>(&self, rt: &R) -> Option<T> {
         let mut waiting = self.waiting.lock(rt);
         for _ in rt.forever() {
-            if let Some(value) = waiting.values.pop_front() {
-                return Some(value);
+            if let Some(given) = waiting.given() {
+                return given;
             }
-            if waiting.closed {
-                return None;
-            }
-            waiting.idle = waiting.idle.saturating_add(1);
             waiting = self.come.wait(rt, waiting);
             waiting.idle = waiting.idle.saturating_sub(1);
         }
@@ -93,13 +103,9 @@ impl<T: Drop> Queue<T> {
     pub fn take_or_rest<R: Wait + Clock>(&self, rt: &R, millis: u64, few: u64) -> Option<T> {
         let mut waiting = self.waiting.lock(rt);
         for _ in rt.forever() {
-            if let Some(value) = waiting.values.pop_front() {
-                return Some(value);
+            if let Some(given) = waiting.given() {
+                return given;
             }
-            if waiting.closed {
-                return None;
-            }
-            waiting.idle = waiting.idle.saturating_add(1);
             let (again, waited) = self
                 .come
                 .wait_timeout(rt, waiting, Duration::from_millis(millis));
