@@ -1,6 +1,6 @@
 -- The last entry of a job has the moment and the answer that were handed in.
 use Rattle.std.proofs.Common.{◌≡◌, inl, inr, refl, sym, ap, subst, ℕ, false, Option}
-use Rattle.std.specs.Prelude.{IfSome, IsSome, OnErr, Result, Ok, Err}
+use Rattle.std.specs.Prelude.{IfOk, IfSome, IsSome, OnErr, Result, Ok, Err}
 use Rattle.ftp_events.specs.declared.event.Answer.{Answer}
 use Rattle.ftp_events.specs.declared.event.Answer.TheVariants.{Done, Moved}
 use Rattle.ftp_events.specs.declared.event.EventKind.{EventKind}
@@ -13,6 +13,7 @@ use Rattle.ftp_transfer.specs.declared.job.Ticket.{Ticket}
 use Rattle.ftp_shared.specs.Answers.{moved_in, outcome_in}
 use Rattle.ftp_shared.specs.Runs.{IsLastOf}
 use Rattle.ftp_shared.specs.declared.receipt.Receipt.{Receipt}
+use Rattle.ftp_shared.specs.declared.receipt.Submitted.{Submitted}
 use Rattle.ftp_shared.specs.Next.{IsNextAt, end_of, is_moved, piece_of}
 use Rattle.ftp_shared.proofs.TurnLemmas.{answer-told, event-told}
 
@@ -54,6 +55,12 @@ last-piece o r job told at bytes same over next =
 pub told-in : {A : Type 0} (part : Answer → Option A) (P : A → Type 0) (o : Options) (r : Receipt) (event : HubEvent) (answer : Answer) →
     IsNextAt o r event answer → IfSome (part answer) P → IfSome (part r.entry.answer) P
 told-in part P o r event answer next = subst (λ (given : Answer). IfSome (part given) P) (sym (answer-told o r event answer next))
+
+-- so it is of what was submitted
+pub told-by : {A X : Type 0} (part : Answer → Option A) (P : A → Type 0) (o : Options) (r : Result Submitted X) (event : HubEvent) (answer : Answer) →
+    IfOk r (λ s. IsNextAt o s.receipt event answer) → IfSome (part answer) P → IfOk r (λ s. IfSome (part s.receipt.entry.answer) P)
+told-by part P o (Ok s) event answer next h = told-in part P o s.receipt event answer next h
+told-by part P o (Err e) event answer next h = tt
 
 -- what follows from an error
 pub with-err : {T X : Type 0} {Q R : Type 0} (r : Result T X) → OnErr r Q → (Q → R) → OnErr r R

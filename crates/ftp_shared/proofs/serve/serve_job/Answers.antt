@@ -6,7 +6,7 @@ use Rattle.ftp_transfer.specs.declared.job.Job.{Job}
 use Rattle.ftp_shared.specs.Answers.{moved_in, outcome_in}
 use Rattle.ftp_shared.specs.Next.{end_of, piece_of}
 use Rattle.ftp_shared.specs.Moments.{TakesMoments}
-use Rattle.ftp_shared.proofs.EndLemmas.{last-end, last-piece, moment-told, told-in, with-err}
+use Rattle.ftp_shared.proofs.EndLemmas.{last-end, last-piece, moment-told, told-by, told-in, with-err}
 use Rattle.ftp_shared.proofs.MomentLemmas.{takes-last, takes-more}
 use Rattle.ftp_shared.proofs.ProgressLemmas.{progress-more, progress-start, runs-ended, runs-stopped}
 use Rattle.ftp_shared.proofs.serve.serve_job.Goals as goal
@@ -33,27 +33,18 @@ returns-in-Ended-clause-next g c =
 -- its outcome is that of the run
 pub returns-in-Ended-clause-runs : goal.returns-in-Ended-clause-runs
 returns-in-Ended-clause-runs g c =
-    IfOk-weaker c.finish.result _ _
-    (λ s next.
-    told-in outcome_in _ g.H.JournalHub.options s.receipt (end_of c.pieces.job c.now-at.result) (Done c.in-Ended.outcome) next
+    told-by outcome_in _ g.H.JournalHub.options c.finish.result (end_of c.pieces.job c.now-at.result) (Done c.in-Ended.outcome) c.finish.ensures.next
     (runs-ended _ c.pieces.invariant c.in-Ended.ensures.storage_counts c.in-Ended.ensures.link_counts g.S.Storage.reads_take_memory g.L.Link.takes_memory c.in-Ended.outcome
-    c.in-Ended.ensures.ran c.in-Ended.ensures.suits c.in-Ended.ensures.no_memory))
-    c.finish.ensures.next
+    c.in-Ended.ensures.ran c.in-Ended.ensures.suits c.in-Ended.ensures.no_memory)
 
 -- an upload is written only where it was settled
 pub returns-in-Ended-clause-settled : goal.returns-in-Ended-clause-settled
 returns-in-Ended-clause-settled g c =
-    IfOk-weaker c.finish.result _ _
-    (λ s next.
-    told-in outcome_in _ g.H.JournalHub.options s.receipt (end_of c.pieces.job c.now-at.result) (Done c.in-Ended.outcome) next
-    c.in-Ended.ensures.settled)
-    c.finish.ensures.next
+    told-by outcome_in _ g.H.JournalHub.options c.finish.result (end_of c.pieces.job c.now-at.result) (Done c.in-Ended.outcome) c.finish.ensures.next c.in-Ended.ensures.settled
 
 pub returns-in-Ended-clause-stops : goal.returns-in-Ended-clause-stops
 returns-in-Ended-clause-stops g c =
-    IfOk-weaker c.finish.result _ _
-    (λ s next. told-in moved_in _ g.H.JournalHub.options s.receipt (end_of c.pieces.job c.now-at.result) (Done c.in-Ended.outcome) next tt)
-    c.finish.ensures.next
+    told-by moved_in _ g.H.JournalHub.options c.finish.result (end_of c.pieces.job c.now-at.result) (Done c.in-Ended.outcome) c.finish.ensures.next tt
 
 -- its moment is the one that was taken last
 pub returns-in-Ended-clause-moments : goal.returns-in-Ended-clause-moments
