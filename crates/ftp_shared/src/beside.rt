@@ -1,7 +1,7 @@
 //! What a hub has beside its lock.
 
 use crate::JournalFeed;
-use crate::receipt::Receipt;
+use crate::receipt::{Receipt, Submitted};
 use std::alloc::Global;
 use std::sync::atomic::{AtomicU64, Ordering};
 use std::sync::{Arc, Wait};
@@ -29,6 +29,13 @@ impl Beside {
     pub(crate) fn tell<R: Wait>(&self, rt: &R, receipt: &Receipt) {
         if let Some(feed) = &self.feed {
             feed.put(rt, receipt.place, &receipt.entry);
+        }
+    }
+
+    // Tells the feed the entry of what was submitted.
+    pub(crate) fn tell_of<R: Wait, E>(&self, rt: &R, submitted: &Result<Submitted, E>) {
+        if let Ok(submitted) = submitted {
+            self.tell(rt, &submitted.receipt);
         }
     }
 

@@ -57,9 +57,9 @@ impl<L: Serving> JournalHub for CutHub<L> {
         event: HubEvent,
         answer: Answer,
     ) -> Result<Submitted, AppendError> {
-        let submitted = self.lock.lock(rt).append(event, answer)?;
-        self.beside.tell(rt, &submitted.receipt);
-        Ok(submitted)
+        let submitted = self.lock.lock(rt).append(event, answer);
+        self.beside.tell_of(rt, &submitted);
+        submitted
     }
 
     /// What the session was sent before is handed to it also where that has left the tail.
@@ -83,9 +83,9 @@ impl<L: Serving> JournalHub for CutHub<L> {
         at: u64,
         bytes: u64,
     ) -> Result<Submitted, FinishError> {
-        let submitted = self.lock.lock(rt).append_piece(job, at, bytes)?;
-        self.beside.tell(rt, &submitted.receipt);
-        Ok(submitted)
+        let submitted = self.lock.lock(rt).append_piece(job, at, bytes);
+        self.beside.tell_of(rt, &submitted);
+        submitted
     }
 
     fn finish<R: Wait>(
@@ -98,11 +98,9 @@ impl<L: Serving> JournalHub for CutHub<L> {
     ) -> Result<Submitted, FinishError> {
         let end = job.end(at);
         let appended = self.lock.lock(rt).append(end, Answer::Done(outcome));
+        self.beside.tell_of(rt, &appended);
         match appended {
-            Ok(submitted) => {
-                self.beside.tell(rt, &submitted.receipt);
-                Ok(submitted)
-            }
+            Ok(submitted) => Ok(submitted),
             Err(cause) => Err(FinishError { job, cause }),
         }
     }

@@ -89,9 +89,9 @@ impl<L: Serving> JournalHub for SharedHub<L> {
         event: HubEvent,
         answer: Answer,
     ) -> Result<Submitted, AppendError> {
-        let submitted = self.lock.lock(rt).append(share, event, answer)?;
-        self.beside.tell(rt, &submitted.receipt);
-        Ok(submitted)
+        let submitted = self.lock.lock(rt).append(share, event, answer);
+        self.beside.tell_of(rt, &submitted);
+        submitted
     }
 
     fn submit_for<R: Wait>(
@@ -116,9 +116,9 @@ impl<L: Serving> JournalHub for SharedHub<L> {
         at: u64,
         bytes: u64,
     ) -> Result<Submitted, FinishError> {
-        let submitted = self.lock.lock(rt).append_piece(share, job, at, bytes)?;
-        self.beside.tell(rt, &submitted.receipt);
-        Ok(submitted)
+        let submitted = self.lock.lock(rt).append_piece(share, job, at, bytes);
+        self.beside.tell_of(rt, &submitted);
+        submitted
     }
 
     fn finish<R: Wait>(
@@ -131,11 +131,9 @@ impl<L: Serving> JournalHub for SharedHub<L> {
     ) -> Result<Submitted, FinishError> {
         let end = job.end(at);
         let appended = self.lock.lock(rt).append(share, end, Answer::Done(outcome));
+        self.beside.tell_of(rt, &appended);
         match appended {
-            Ok(submitted) => {
-                self.beside.tell(rt, &submitted.receipt);
-                Ok(submitted)
-            }
+            Ok(submitted) => Ok(submitted),
             Err(cause) => Err(FinishError { job, cause }),
         }
     }
