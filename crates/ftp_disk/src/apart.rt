@@ -5,12 +5,12 @@ ghost use Rattle.ftp_disk.specs.FileSystem.{IsUnlinked};
 
 use crate::budget::Budget;
 use crate::file_system::FileSystem;
+use crate::files::Files;
 use crate::home::Writable;
 use crate::opened::{Apart, Opened, Use};
 use crate::opening::{create, in_directory, resolve_writable};
 use crate::refusals::{Answer, refusal};
 use crate::standing::Standing;
-use crate::writing::cut;
 use ftp_base::{ErrorKind, StoreError};
 use std::alloc::Global;
 use std::sync::Wait;
@@ -57,97 +57,87 @@ pub(crate) fn open_beside<S: FileSystem>(
     }
 }
 
-// Removes what an upload wrote beside its path, and gives its bytes back.
-fn remove<R: Wait, S: FileSystem>(
-    rt: &R,
-    system: &S,
-    alloc: Global,
-    budget: &Budget,
-    from: &Writable,
-) {
-    if let Ok(Standing::File(len)) = resolve_writable(system, alloc, from) {
-        if system.remove_file(from).is_ok() {
-            budget.free(rt, len);
-        }
-    }
-}
-
-/// Begins an upload beside its path.
-pub(crate) fn begin_beside<R: Wait, S: FileSystem>(
-    rt: &R,
-    system: &S,
-    alloc: Global,
-    by: Use,
-    from: Writable,
-    onto: Writable,
-    budget: Budget,
-) -> Answer<Opened<S::File>>
-    ensures unlinked { OnOk result (IsUnlinked (S.told system.now) onto) }
-    ensures apart { IfOk result (λ opened. is_some opened.apart ≡ true) }
-{
-    let replaced = open_replaced(system, alloc, &onto)?;
-    let mut file = open_beside(system, alloc, &from)?;
-    if let Err(error) = cut(rt, system, &budget, &mut file, 0) {
-        remove(rt, system, alloc, &budget, &from);
-        return Err(error);
-    }
-    let apart = Apart {
-        from,
-        onto,
-        budget,
-        replaced,
-    };
-    Ok(Opened {
-        by,
-        file,
-        at: 0,
-        apart: Some(apart),
-    })
-}
-
-/// Removes what an upload has written beside its path, where it stands there.
-pub(crate) fn leave_off<R: Wait, S: FileSystem>(
-    rt: &R,
-    system: &S,
-    alloc: Global,
-    opened: &Opened<S::File>,
-) {
-    if let Some(apart) = &opened.apart {
-        remove(rt, system, alloc, &apart.budget, &apart.from);
-    }
-}
-
-/// Renames an upload that came whole, and stands beside its path, to its path. The bytes that it takes the place of are given
-/// back to the budget then.
-///
-/// # Proved
-///
-/// - An upload that stands beside its path is in its place only where the system renamed it (`renamed`).
-pub(crate) fn finish<R: Wait, S: FileSystem>(
-    rt: &R,
-    system: &S,
-    alloc: Global,
-    opened: &Opened<S::File>,
-) -> Answer<()>
-    ensures renamed { OnOk result (IfSome opened.now.apart (λ apart. S.renamed system.now apart.from apart.onto)) }
-{
-    let Some(apart) = &opened.apart else {
-        return Ok(());
-    };
-    let found = resolve_writable(system, alloc, &apart.onto)?;
-    // What came to stand there meanwhile is not replaced while another upload writes to it.
-    let _lock = match (&apart.replaced, found) {
-        (None, Standing::File(_)) => open_replaced(system, alloc, &apart.onto)?,
-        _ => None,
-    };
-    resolve_writable(system, alloc, &apart.from)?;
-    match system.rename(&apart.from, &apart.onto) {
-        Ok(()) => {
-            if let Standing::File(len) = found {
-                apart.budget.free(rt, len);
+impl<R: Wait, S: FileSystem> Files<R, S> {
+    // Removes what an upload wrote beside its path, and gives its bytes back.
+    fn remove(&self, budget: &Budget, from: &Writable) {
+        if let Ok(Standing::File(len)) = resolve_writable(&self.system, self.alloc, from) {
+            if self.system.remove_file(from).is_ok() {
+                budget.free(&self.rt, len);
             }
-            Ok(())
         }
-        Err(error) => Err(refusal(error.kind())),
+    }
+
+    // Opens a file beside a path, of which nothing is left.
+    fn open_empty(&self, budget: &Budget, from: &Writable) -> Answer<S::File> {
+        let mut file = open_beside(&self.system, self.alloc, from)?;
+        if let Err(error) = self.cut(budget, &mut file, 0) {
+            self.remove(budget, from);
+            return Err(error);
+        }
+        Ok(file)
+    }
+
+    /// Begins an upload beside its path.
+    pub(crate) fn begin_beside(
+        &self,
+        by: Use,
+        from: Writable,
+        onto: Writable,
+        budget: Budget,
+    ) -> Answer<Opened<S::File>>
+        ensures unlinked { OnOk result (IsUnlinked (S.told self.now.system) onto) }
+        ensures apart { IfOk result (λ opened. is_some opened.apart ≡ true) }
+    {
+        let replaced = open_replaced(&self.system, self.alloc, &onto)?;
+        let file = self.open_empty(&budget, &from)?;
+        let apart = Apart {
+            from,
+            onto,
+            budget,
+            replaced,
+        };
+        Ok(Opened {
+            by,
+            file,
+            at: 0,
+            apart: Some(apart),
+        })
+    }
+
+    /// Removes what an upload has written beside its path, where it stands there.
+    pub(crate) fn leave_off(&self, opened: &Opened<S::File>) {
+        if let Some(apart) = &opened.apart {
+            self.remove(&apart.budget, &apart.from);
+        }
+    }
+
+    /// Renames an upload that came whole, and stands beside its path, to its path. The bytes that it takes the place of are given
+    /// back to the budget then.
+    ///
+    /// # Proved
+    ///
+    /// - An upload that stands beside its path is in its place only where the system renamed it (`renamed`).
+    pub(crate) fn finish(&self, opened: &Opened<S::File>) -> Answer<()>
+        ensures renamed { OnOk result (IfSome opened.now.apart (λ apart. S.renamed self.now.system apart.from apart.onto)) }
+    {
+        let Some(apart) = &opened.apart else {
+            return Ok(());
+        };
+        let found = resolve_writable(&self.system, self.alloc, &apart.onto)?;
+        // What came to stand there meanwhile is not replaced while another upload writes to it.
+        let _lock = match (&apart.replaced, found) {
+            (None, Standing::File(_)) => open_replaced(&self.system, self.alloc, &apart.onto)?,
+            _ => None,
+        };
+        resolve_writable(&self.system, self.alloc, &apart.from)?;
+        match self.system.rename(&apart.from, &apart.onto) {
+            Ok(()) => {
+                if let Standing::File(len) = found {
+                    apart.budget.free(&self.rt, len);
+                }
+                Ok(())
+            }
+            Err(error) => Err(refusal(error.kind())),
+        }
     }
 }

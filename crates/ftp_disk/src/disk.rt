@@ -9,15 +9,14 @@ ghost use Rattle.ftp_disk.specs.Home.{has_home, may_write};
 mod archive;
 mod storage;
 
-use crate::apart::{begin_beside, finish, leave_off};
 use crate::file_system::FileSystem;
-use crate::home::{Home, Homes};
+use crate::files::Files;
+use crate::home::Homes;
 use crate::listing::{list, meta_of};
 use crate::opened::{Access, Opened, Use};
-use crate::opening::{open_to_append, open_to_begin, open_to_read};
 use crate::refusals::{Answer, refusal};
 use crate::standing::resolve;
-use crate::writing::{check_reach, cut, go_to, put};
+use crate::writing::{check_reach, go_to};
 use ftp_base::{Bytes, ErrorKind, FileInfo, Meta, StoreError};
 use ftp_places::Place;
 use std::alloc::Global;
@@ -28,9 +27,7 @@ use std::sync::{Arc, Wait};
 /// The files of users' homes, for one transfer: the file that it reads or writes is kept open between its pieces, and an
 /// upload's is locked. It tells no content.
 pub struct DiskStorage<R: Wait + Drop, S: FileSystem + Drop> {
-    rt: R,
-    system: S,
-    alloc: Global,
+    files: Files<R, S>,
     homes: Arc<Homes, Global>,
     // Whether an upload from the front of a file stands beside its path until it came whole.
     is_whole: bool,
@@ -44,24 +41,37 @@ impl<R: Wait + Drop, S: FileSystem + Drop> Model for DiskStorage<R, S> {
 
     ghost Value = { DiskState S };
 
-    ghost view = { λ s. record { system = s.system; homes = arc_value s.homes; is_whole = s.is_whole; is_apart = is_apart s.opened; faults = s.faults } };
+    ghost view = { λ s. record { system = s.files.system; homes = arc_value s.homes; is_whole = s.is_whole; is_apart = is_apart s.opened; faults = s.faults } };
 }
 
 impl<R: Wait + Drop, S: FileSystem + Drop> Drop for DiskStorage<R, S> {
     // What an upload has written beside its path is removed.
     fn drop(self) {
         let DiskStorage {
-            rt,
-            system,
-            alloc,
+            files,
             homes: _,
             is_whole: _,
             opened,
             faults: _,
         } = self;
         if let Some(opened) = opened {
-            leave_off(&rt, &system, alloc, &opened);
+            files.leave_off(&opened);
         }
+    }
+}
+
+// Reads from a file that stands at a place.
+fn read_at<F: Read>(file: &mut F, at: u64, out: &mut [u8]) -> Answer<usize>
+    ensures within { IfOk result (λ n. n ≤ length out.new) }
+    ensures in_range { IfOk result (λ n. at + n < 2 ^ 64) }
+{
+    let n = match file.read(out) {
+        Ok(n) => n,
+        Err(error) => return Err(refusal(error.kind())),
+    };
+    match at.checked_add(n as u64) {
+        Some(_) => Ok(n),
+        None => Err(StoreError::Failed),
     }
 }
 
@@ -76,9 +86,7 @@ impl<R: Wait + Drop, S: FileSystem + Drop> DiskStorage<R, S> {
         ensures in_place { result.is_whole ≡ false }
     {
         DiskStorage {
-            rt,
-            system,
-            alloc,
+            files: Files { rt, system, alloc },
             homes,
             is_whole: false,
             opened: None,
@@ -101,7 +109,7 @@ impl<R: Wait + Drop, S: FileSystem + Drop> DiskStorage<R, S> {
         ensures homeless { has_home self.now.homes user.now ≡ false → IsErrOf result (StoreError.Kind PermissionDenied) }
     {
         let home = self.homes.find(user)?;
-        home.place(self.alloc, path.as_slice())
+        home.place(self.files.alloc, path.as_slice())
     }
 
     // Closes the file that is open. What an upload has written beside its path is removed.
@@ -109,7 +117,7 @@ impl<R: Wait + Drop, S: FileSystem + Drop> DiskStorage<R, S> {
         ensures closed { self.new ≡ record self.old { is_apart = false } }
     {
         if let Some(opened) = self.opened.take() {
-            leave_off(&self.rt, &self.system, self.alloc, &opened);
+            self.files.leave_off(&opened);
         }
     }
 
@@ -133,7 +141,7 @@ impl<R: Wait + Drop, S: FileSystem + Drop> DiskStorage<R, S> {
         ensures homeless { has_home self.now.homes user.now ≡ false → IsErrOf result (StoreError.Kind PermissionDenied) }
     {
         let place = self.place(user, path)?;
-        match meta_of(resolve(&self.system, self.alloc, &place)?) {
+        match meta_of(resolve(&self.files.system, self.files.alloc, &place)?) {
             Some(meta) => Ok(meta),
             None => Err(StoreError::Kind(ErrorKind::PermanentFileNotAvailable)),
         }
@@ -145,7 +153,12 @@ impl<R: Wait + Drop, S: FileSystem + Drop> DiskStorage<R, S> {
         ensures homeless { has_home self.now.homes user.now ≡ false → IsErrOf result (StoreError.Kind PermissionDenied) }
     {
         let place = self.place(user, path)?;
-        list(&self.system, self.alloc, &place, path.as_slice())
+        list(
+            &self.files.system,
+            self.files.alloc,
+            &place,
+            path.as_slice(),
+        )
     }
 
     // The file that is open to be read at a place, or which is opened there; none past its end.
@@ -153,25 +166,20 @@ impl<R: Wait + Drop, S: FileSystem + Drop> DiskStorage<R, S> {
         ensures homeless { has_home self.old.homes user.now ≡ false → IsErrOf result (StoreError.Kind PermissionDenied) }
         ensures others { self.new ≡ record self.old { is_apart = self.new.is_apart } }
     {
-        let taken = self.take_open(user, path, Access::Read);
-        let home = self.homes.find(user)?;
-        match taken {
-            Some(opened) if opened.at == at => Ok(Some(opened)),
-            _ => self.open_read(home, user, path, at),
+        self.homes.find(user)?;
+        if let Some(opened) = self.take_open(user, path, Access::Read) {
+            if opened.at == at {
+                return Ok(Some(opened));
+            }
         }
+        self.open_read(user, path, at)
     }
 
     // A file that is opened to be read at a place; none past its end.
-    fn open_read(
-        &self,
-        home: &Home,
-        user: &Bytes,
-        path: &Bytes,
-        at: u64,
-    ) -> Answer<Option<Opened<S::File>>> {
-        let place = home.place(self.alloc, path.as_slice())?;
-        let by = Use::new(self.alloc, user, path, Access::Read)?;
-        let (mut file, len) = open_to_read(&self.system, self.alloc, &place)?;
+    fn open_read(&self, user: &Bytes, path: &Bytes, at: u64) -> Answer<Option<Opened<S::File>>> {
+        let place = self.place(user, path)?;
+        let by = Use::new(self.files.alloc, user, path, Access::Read)?;
+        let (mut file, len) = self.files.open_to_read(&place)?;
         if at > len {
             return Ok(None);
         }
@@ -194,14 +202,8 @@ impl<R: Wait + Drop, S: FileSystem + Drop> DiskStorage<R, S> {
         let Some(mut opened) = self.reader(user, path, at)? else {
             return Ok(0);
         };
-        let n = match opened.file.read(out) {
-            Ok(n) => n,
-            Err(error) => return Err(refusal(error.kind())),
-        };
-        let Some(behind) = at.checked_add(n as u64) else {
-            return Err(StoreError::Failed);
-        };
-        opened.at = behind;
+        let n = read_at(&mut opened.file, at, out)?;
+        opened.at = at + n as u64;
         self.opened = Some(opened);
         Ok(n)
     }
@@ -213,18 +215,11 @@ impl<R: Wait + Drop, S: FileSystem + Drop> DiskStorage<R, S> {
         ensures in_place { IfOk result (λ opened. is_some opened.apart ≡ false) }
     {
         let home = self.homes.find(user)?;
-        let place = home.writable(self.alloc, path.as_slice())?;
+        let place = home.writable(self.files.alloc, path.as_slice())?;
         check_reach(start)?;
-        let by = Use::new(self.alloc, user, path, Access::Write)?;
-        let mut file = open_to_begin(
-            &self.rt,
-            &self.system,
-            self.alloc,
-            &place,
-            &home.budget,
-            start,
-        )?;
-        cut(&self.rt, &self.system, &home.budget, &mut file, start)?;
+        let by = Use::new(self.files.alloc, user, path, Access::Write)?;
+        let mut file = self.files.open_to_begin(&place, &home.budget, start)?;
+        self.files.cut(&home.budget, &mut file, start)?;
         Ok(Opened {
             by,
             file,
@@ -240,11 +235,11 @@ impl<R: Wait + Drop, S: FileSystem + Drop> DiskStorage<R, S> {
         ensures beside { IfOk result (λ opened. is_some opened.apart ≡ true) }
     {
         let home = self.homes.find(user)?;
-        let onto = home.writable(self.alloc, path.as_slice())?;
-        let from = home.beside(self.alloc, path.as_slice())?;
-        let by = Use::new(self.alloc, user, path, Access::Write)?;
+        let onto = home.writable(self.files.alloc, path.as_slice())?;
+        let from = home.beside(self.files.alloc, path.as_slice())?;
+        let by = Use::new(self.files.alloc, user, path, Access::Write)?;
         let budget = home.budget.share()?;
-        begin_beside(&self.rt, &self.system, self.alloc, by, from, onto, budget)
+        self.files.begin_beside(by, from, onto, budget)
     }
 
     // Opens a file for an upload: beside its path if it is to come whole.
@@ -278,9 +273,9 @@ impl<R: Wait + Drop, S: FileSystem + Drop> DiskStorage<R, S> {
         ensures read_only { may_write self.now.homes user.now ≡ false → IsErrOf result (StoreError.Kind PermissionDenied) }
     {
         let home = self.homes.find(user)?;
-        let place = home.writable(self.alloc, path.as_slice())?;
-        let by = Use::new(self.alloc, user, path, Access::Write)?;
-        let mut file = open_to_append(&self.system, self.alloc, &place)?;
+        let place = home.writable(self.files.alloc, path.as_slice())?;
+        let by = Use::new(self.files.alloc, user, path, Access::Write)?;
+        let mut file = self.files.open_to_append(&place)?;
         let at = go_to(&mut file, SeekFrom::End(0))?;
         Ok(Opened {
             by,
@@ -293,14 +288,8 @@ impl<R: Wait + Drop, S: FileSystem + Drop> DiskStorage<R, S> {
     // Puts bytes at the end of a file that is open.
     fn put_at_end(&self, user: &Bytes, opened: &mut Opened<S::File>, bytes: &[u8]) -> Answer<()> {
         let home = self.homes.find(user)?;
-        put(
-            &self.rt,
-            &self.system,
-            &home.budget,
-            &mut opened.file,
-            opened.at,
-            bytes,
-        )?;
+        self.files
+            .put(&home.budget, &mut opened.file, opened.at, bytes)?;
         opened.at = opened.at.saturating_add(bytes.len() as u64);
         Ok(())
     }
@@ -330,9 +319,9 @@ impl<R: Wait + Drop, S: FileSystem + Drop> DiskStorage<R, S> {
         let Some(opened) = self.take_open(user, path, Access::Write) else {
             return Ok(());
         };
-        let finished = finish(&self.rt, &self.system, self.alloc, &opened);
+        let finished = self.files.finish(&opened);
         if finished.is_err() {
-            leave_off(&self.rt, &self.system, self.alloc, &opened);
+            self.files.leave_off(&opened);
         }
         finished
     }

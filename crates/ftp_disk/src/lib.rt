@@ -12,6 +12,7 @@ mod counting;
 mod dating;
 mod disk;
 mod file_system;
+mod files;
 mod home;
 mod leftovers;
 mod listing;

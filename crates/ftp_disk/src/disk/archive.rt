@@ -7,7 +7,6 @@ ghost use Rattle.ftp_extras.specs.Archive.{IsDated};
 ghost use Rattle.ftp_extras.specs.Moment.{is_moment};
 ghost use Rattle.ftp_disk.specs.Home.{has_home, may_write};
 
-use crate::changing;
 use crate::dating::modified_told;
 use crate::disk::DiskStorage;
 use crate::file_system::FileSystem;
@@ -18,6 +17,15 @@ use ftp_base::{Bytes, ErrorKind, StoreError, count_failed};
 use ftp_extras::{Archive, Found};
 use std::sync::Wait;
 
+// How what stands at a path is changed.
+#[derive(Clone, Copy)]
+enum Change<'a> {
+    Remove,
+    MakeDirectory,
+    RemoveDirectory,
+    SetModified(&'a [u8]),
+}
+
 impl<R: Wait + Drop, S: FileSystem + Drop> DiskStorage<R, S> {
     // What stands at a path, and when it was last changed.
     fn find(&self, user: &Bytes, path: &Bytes) -> Answer<Found>
@@ -25,59 +33,34 @@ impl<R: Wait + Drop, S: FileSystem + Drop> DiskStorage<R, S> {
         ensures homeless { has_home self.now.homes user.now ≡ false → IsErrOf result (StoreError.Kind PermissionDenied) }
     {
         let place = self.place(user, path)?;
-        let Some(meta) = meta_of(resolve(&self.system, self.alloc, &place)?) else {
+        let Some(meta) = meta_of(resolve(&self.files.system, self.files.alloc, &place)?) else {
             return Err(StoreError::Kind(ErrorKind::PermanentFileNotAvailable));
         };
-        let modified = modified_told(&self.system.look(&place));
+        let modified = modified_told(&self.files.system.look(&place));
         Ok(Found { meta, modified })
     }
 
-    fn remove_file(&self, user: &Bytes, path: &Bytes) -> Answer<()>
+    // Changes what stands at a path.
+    fn change(&self, user: &Bytes, path: &Bytes, change: Change) -> Answer<()>
         ensures read_only { may_write self.now.homes user.now ≡ false → IsErrOf result (StoreError.Kind PermissionDenied) }
     {
         let home = self.homes.find(user)?;
-        let place = home.writable(self.alloc, path.as_slice())?;
-        changing::remove_file(&self.rt, &self.system, self.alloc, &home.budget, &place)
-    }
-
-    fn create_dir(&self, user: &Bytes, path: &Bytes) -> Answer<()>
-        ensures read_only { may_write self.now.homes user.now ≡ false → IsErrOf result (StoreError.Kind PermissionDenied) }
-    {
-        let home = self.homes.find(user)?;
-        let place = home.writable(self.alloc, path.as_slice())?;
-        changing::make_directory(&self.system, self.alloc, &place)
-    }
-
-    fn remove_dir(&self, user: &Bytes, path: &Bytes) -> Answer<()>
-        ensures read_only { may_write self.now.homes user.now ≡ false → IsErrOf result (StoreError.Kind PermissionDenied) }
-    {
-        let home = self.homes.find(user)?;
-        let place = home.writable(self.alloc, path.as_slice())?;
-        changing::remove_directory(&self.system, self.alloc, &place)
+        let place = home.writable(self.files.alloc, path.as_slice())?;
+        match change {
+            Change::Remove => self.files.remove_file(&home.budget, &place),
+            Change::MakeDirectory => self.files.make_directory(&place),
+            Change::RemoveDirectory => self.files.remove_directory(&place),
+            Change::SetModified(at) => self.files.set_modified(&place, at),
+        }
     }
 
     fn move_to(&self, user: &Bytes, from: &Bytes, to: &Bytes) -> Answer<()>
         ensures read_only { may_write self.now.homes user.now ≡ false → IsErrOf result (StoreError.Kind PermissionDenied) }
     {
         let home = self.homes.find(user)?;
-        let from = home.writable(self.alloc, from.as_slice())?;
-        let onto = home.writable(self.alloc, to.as_slice())?;
-        changing::rename(
-            &self.rt,
-            &self.system,
-            self.alloc,
-            &home.budget,
-            &from,
-            &onto,
-        )
-    }
-
-    fn set_date(&self, user: &Bytes, path: &Bytes, at: &Bytes) -> Answer<()>
-        ensures read_only { may_write self.now.homes user.now ≡ false → IsErrOf result (StoreError.Kind PermissionDenied) }
-    {
-        let home = self.homes.find(user)?;
-        let place = home.writable(self.alloc, path.as_slice())?;
-        changing::set_modified(&self.system, self.alloc, &place, at.as_slice())
+        let from = home.writable(self.files.alloc, from.as_slice())?;
+        let onto = home.writable(self.files.alloc, to.as_slice())?;
+        self.files.rename(&home.budget, &from, &onto)
     }
 }
 
@@ -105,7 +88,7 @@ impl<R: Wait + Drop, S: FileSystem + Drop> Archive for DiskStorage<R, S> {
         ensures count { self.old.faults ≤ self.new.faults }
         ensures others { self.new ≡ record self.old { faults = self.new.faults } }
     {
-        count_failed(self.remove_file(user, path), &mut self.faults)
+        count_failed(self.change(user, path, Change::Remove), &mut self.faults)
     }
 
     fn make_directory(&mut self, user: &Bytes, path: &Bytes) -> Answer<()>
@@ -114,7 +97,10 @@ impl<R: Wait + Drop, S: FileSystem + Drop> Archive for DiskStorage<R, S> {
         ensures count { self.old.faults ≤ self.new.faults }
         ensures others { self.new ≡ record self.old { faults = self.new.faults } }
     {
-        count_failed(self.create_dir(user, path), &mut self.faults)
+        count_failed(
+            self.change(user, path, Change::MakeDirectory),
+            &mut self.faults,
+        )
     }
 
     fn remove_directory(&mut self, user: &Bytes, path: &Bytes) -> Answer<()>
@@ -123,7 +109,10 @@ impl<R: Wait + Drop, S: FileSystem + Drop> Archive for DiskStorage<R, S> {
         ensures count { self.old.faults ≤ self.new.faults }
         ensures others { self.new ≡ record self.old { faults = self.new.faults } }
     {
-        count_failed(self.remove_dir(user, path), &mut self.faults)
+        count_failed(
+            self.change(user, path, Change::RemoveDirectory),
+            &mut self.faults,
+        )
     }
 
     fn rename(&mut self, user: &Bytes, from: &Bytes, to: &Bytes) -> Answer<()>
@@ -142,6 +131,9 @@ impl<R: Wait + Drop, S: FileSystem + Drop> Archive for DiskStorage<R, S> {
         ensures count { self.old.faults ≤ self.new.faults }
         ensures others { self.new ≡ record self.old { faults = self.new.faults } }
     {
-        count_failed(self.set_date(user, path, at), &mut self.faults)
+        count_failed(
+            self.change(user, path, Change::SetModified(at.as_slice())),
+            &mut self.faults,
+        )
     }
 }
