@@ -1,9 +1,10 @@
 //! The events that are appended: connections first, and then USERs, each of which is answered by one reply.
 
-ghost use Rattle.std.specs.Prelude.{◌≡◌, false, None, Some, IfOk};
+ghost use Rattle.std.specs.Prelude.{◌≡◌, true, false, None, Some, IfOk};
 ghost use Rattle.ftp_events.specs.Covers.{link_number};
 ghost use Rattle.ftp_events.specs.Log.{named_session};
 ghost use Rattle.ftp_shared.specs.Outbox.{has_ticket};
+ghost use Rattle.ftp_talk.specs.Control.{is_opening};
 
 use ftp_base::{Bytes, IpAddr, SocketAddr};
 use ftp_events::{EventKind, HubEvent};
@@ -13,6 +14,7 @@ use std::alloc::{AllocError, Global};
 pub fn connect(session: u64) -> HubEvent
     ensures no_link { link_number result.kind ≡ None }
     ensures no_ticket { has_ticket result.kind ≡ false }
+    ensures opening { is_opening result.kind ≡ true }
 {
     let kind = EventKind::Connect {
         session,

@@ -17,6 +17,7 @@ mod appending;
 mod asking;
 mod client;
 mod command;
+mod error;
 mod lane;
 mod moving;
 mod plain;
@@ -30,10 +31,10 @@ use moving::move_bytes;
 use reservations::count_looks;
 use serving::count_replies;
 use std::alloc::Global;
-use std::env;
 use std::process::ExitCode;
 use std::sync::Wait;
 use std::thread::Threads;
+use std::{env, io};
 
 const HELP: &str = "\
 Usage: ftp_bench KIND MEBIBYTES ROUNDS
@@ -65,26 +66,22 @@ fn main(rt: HostRuntime) -> ExitCode {
 
 /// Does what a command asks for, and writes its answer.
 fn answer<R: Threads + Wait + Sync + Print>(rt: &R, alloc: Global, command: Command) -> ExitCode {
-    let written = match command {
-        Command::Help => print!(rt; "{HELP}"),
-        Command::Version => print!(rt; "{VERSION}"),
-        Command::Talk(packets) => match count_replies(alloc, packets) {
-            Ok(lines) => println!(rt; "{lines}"),
-            Err(_) => return ExitCode::from(1),
-        },
-        Command::Move(load) => match move_bytes(alloc, load) {
-            Ok(moved) => println!(rt; "{moved}"),
-            Err(_) => return ExitCode::from(1),
-        },
-        Command::Reserve(search) => match count_looks(alloc, search) {
-            Ok(looks) => println!(rt; "{looks}"),
-            Err(_) => return ExitCode::from(1),
-        },
-        Command::Append(appends) => match append_all(rt, alloc, appends) {
-            Ok(taken) => println!(rt; "{taken}"),
-            Err(_) => return ExitCode::from(1),
-        },
+    let counted = match command {
+        Command::Help => return status_of(print!(rt; "{HELP}")),
+        Command::Version => return status_of(print!(rt; "{VERSION}")),
+        Command::Talk(packets) => count_replies(alloc, packets),
+        Command::Move(load) => move_bytes(alloc, load),
+        Command::Reserve(search) => count_looks(alloc, search),
+        Command::Append(appends) => append_all(rt, alloc, appends),
     };
+    match counted {
+        Ok(count) => status_of(println!(rt; "{count}")),
+        Err(_) => ExitCode::from(1),
+    }
+}
+
+/// The status behind an answer that was written, or was not.
+fn status_of(written: io::Result<()>) -> ExitCode {
     match written {
         Ok(()) => ExitCode::SUCCESS,
         Err(_) => ExitCode::from(1),

@@ -3,43 +3,17 @@
 ghost use Rattle.std.specs.Prelude.{◌≡◌, ◌*◌, ◌^◌, ◌<◌, length, codes, IfOk, IfErr, OnErr};
 ghost use Rattle.ftp_base.specs.Storage.{old_bytes};
 ghost use Rattle.ftp_transfer.specs.Ran.{IsDone};
-ghost use Rattle.ftp_bench.specs.declared.moving.MoveError.TheVariants.{Storage, OutOfMemory};
 ghost use Rattle.ftp_bench.specs.Moving.{total};
 
 use crate::command::{Kind, Load};
+use crate::error::BenchError;
 use ftp_audit::Quota;
-use ftp_base::{Bytes, DataChanCmd, MemoryLink, MemoryStorage, Storage, StoreError};
+use ftp_base::{Bytes, DataChanCmd, MemoryLink, MemoryStorage, Storage};
 use ftp_transfer::{Completion, Job, Outcome, Ticket, execute};
 use std::alloc::{AllocError, Global};
 
 /// How many bytes a link moves in a call, and a plain copy in a piece.
 const CHUNK: u32 = 65_536;
-
-/// Why bytes did not move.
-#[derive(Clone, Copy, Debug, PartialEq, Eq)]
-pub enum MoveError {
-    /// The storage did not take the file.
-    Storage(StoreError),
-    /// A transfer ended so before all bytes moved.
-    Transfer(Completion),
-    OutOfMemory,
-}
-
-impl From<AllocError> for MoveError {
-    ghost from_gives = { λ _ e. e ≡ OutOfMemory };
-
-    fn from(_: AllocError) -> MoveError {
-        MoveError::OutOfMemory
-    }
-}
-
-impl From<StoreError> for MoveError {
-    ghost from_gives = { λ error e. e ≡ Storage error };
-
-    fn from(error: StoreError) -> MoveError {
-        MoveError::Storage(error)
-    }
-}
 
 /// Moves a load, and says how many bytes moved in all.
 ///
@@ -48,7 +22,7 @@ impl From<StoreError> for MoveError {
 /// - A load that gives a number has moved that many bytes: its rounds times its mebibytes; each round the file for
 ///   RETR, and the bytes for STOR, with or without budgets, and a copy (`moved`; also `retrieve_all`, `store_all`,
 ///   `copy_all`: `moved`; `retrieve`, `store`, `copy`: `whole`).
-pub fn move_bytes(alloc: Global, load: Load) -> Result<u64, MoveError>
+pub fn move_bytes(alloc: Global, load: Load) -> Result<u64, BenchError>
     ensures moved { IfOk result (λ n. n ≡ total load) }
 {
     let mut bytes = Vec::new(alloc);
@@ -71,7 +45,7 @@ fn no_files(alloc: Global) -> MemoryStorage {
 }
 
 /// A storage in which a download finds the bytes.
-fn storage_with(alloc: Global, bytes: &[u8]) -> Result<MemoryStorage, MoveError>
+fn storage_with(alloc: Global, bytes: &[u8]) -> Result<MemoryStorage, BenchError>
     ensures found { IfOk result (λ storage. old_bytes storage.files (codes "/a") ≡ bytes.now) }
 {
     let mut storage = no_files(alloc);
@@ -81,7 +55,7 @@ fn storage_with(alloc: Global, bytes: &[u8]) -> Result<MemoryStorage, MoveError>
 }
 
 /// Sends the bytes so often, and says how many moved in all.
-fn retrieve_all(alloc: Global, bytes: &[u8], rounds: u16) -> Result<u64, MoveError>
+fn retrieve_all(alloc: Global, bytes: &[u8], rounds: u16) -> Result<u64, BenchError>
     requires in_range { length bytes.now < 2 ^ 48 }
     ensures moved { IfOk result (λ n. n ≡ rounds * length bytes.now) }
 {
@@ -99,7 +73,7 @@ fn store_all<S: Storage>(
     storage: &mut S,
     bytes: &[u8],
     rounds: u16,
-) -> Result<u64, MoveError>
+) -> Result<u64, BenchError>
     requires in_range { length bytes.now < 2 ^ 48 }
     ensures moved { IfOk result (λ n. n ≡ rounds * length bytes.now) }
 {
@@ -111,7 +85,7 @@ fn store_all<S: Storage>(
 }
 
 /// Copies the bytes so often, and says how many moved in all.
-fn copy_all(alloc: Global, bytes: &[u8], rounds: u16) -> Result<u64, MoveError>
+fn copy_all(alloc: Global, bytes: &[u8], rounds: u16) -> Result<u64, BenchError>
     requires in_range { length bytes.now < 2 ^ 48 }
     ensures moved { IfOk result (λ n. n ≡ rounds * length bytes.now) }
 {
@@ -123,7 +97,7 @@ fn copy_all(alloc: Global, bytes: &[u8], rounds: u16) -> Result<u64, MoveError>
 }
 
 /// Sends the file.
-fn retrieve(alloc: Global, storage: &mut MemoryStorage) -> Result<u64, MoveError>
+fn retrieve(alloc: Global, storage: &mut MemoryStorage) -> Result<u64, BenchError>
     ensures whole { IfOk result (λ n. n ≡ length (old_bytes storage.old.files (codes "/a"))) }
     ensures kept { storage.new.files ≡ storage.old.files }
 {
@@ -134,7 +108,7 @@ fn retrieve(alloc: Global, storage: &mut MemoryStorage) -> Result<u64, MoveError
 }
 
 /// Stores the bytes.
-fn store<S: Storage>(alloc: Global, storage: &mut S, bytes: &[u8]) -> Result<u64, MoveError>
+fn store<S: Storage>(alloc: Global, storage: &mut S, bytes: &[u8]) -> Result<u64, BenchError>
     ensures whole { IfOk result (λ n. n ≡ length bytes.now) }
 {
     let path = Bytes::from_slice(alloc, b"/a")?;
@@ -167,14 +141,14 @@ fn job(alloc: Global, command: DataChanCmd) -> Result<Job, AllocError>
 /// # Proved
 ///
 /// - A transfer that stopped is an error, and one that is done is none (`moved`, `stopped`, `not_done`).
-fn moved(outcome: Outcome) -> Result<u64, MoveError>
+fn moved(outcome: Outcome) -> Result<u64, BenchError>
     ensures moved { IfOk result (λ n. (n ≡ outcome.bytes) × IsDone outcome.result) }
-    ensures stopped { IfErr result (λ e. e ≡ MoveError.Transfer outcome.result) }
+    ensures stopped { IfErr result (λ e. e ≡ BenchError.Transfer outcome.result) }
     ensures not_done { OnErr result (IsDone outcome.result → ⊥) }
 {
     match outcome.result {
         Completion::Sent | Completion::Written | Completion::Listed => Ok(outcome.bytes),
-        stopped => Err(MoveError::Transfer(stopped)),
+        stopped => Err(BenchError::Transfer(stopped)),
     }
 }
 

@@ -4,8 +4,8 @@ ghost use Rattle.std.specs.Prelude.{◌≡◌, ◌+◌, ◌-◌, None, IfOk, OnO
 ghost use Rattle.ftp_events.specs.Covers.{link_number};
 ghost use Rattle.ftp_bench.specs.Appending.{events_in, taken};
 
-use crate::appending::AppendError;
 use crate::asking::{connect, user};
+use crate::error::BenchError;
 use crate::lane::Lane;
 use ftp_base::{LinkTable, MemoryLink, MemoryStorage};
 use ftp_events::{HubEvent, Log};
@@ -25,7 +25,7 @@ pub struct Plain {
 }
 
 /// Runs the events of a lane whose sessions connect first, and says how many entries there are.
-pub fn run_all(alloc: Global, options: Options, lane: Lane, keeps: bool) -> Result<u64, AppendError>
+pub fn run_all(alloc: Global, options: Options, lane: Lane, keeps: bool) -> Result<u64, BenchError>
     ensures taken { IfOk result (λ n. n ≡ events_in lane) }
 {
     let mut plain = Plain::new(alloc, options, keeps);
@@ -61,7 +61,7 @@ impl Plain {
     }
 
     /// Lets the sessions of a lane connect.
-    fn connect_all(&mut self, lane: Lane) -> Result<(), AppendError>
+    fn connect_all(&mut self, lane: Lane) -> Result<(), BenchError>
         ensures { OnOk result (taken self.new ≡ taken self.old + (lane.end - lane.first)) }
     {
         for session in lane.first..lane.end {
@@ -71,7 +71,7 @@ impl Plain {
     }
 
     /// Runs the events of a lane.
-    fn ask_all(&mut self, lane: Lane) -> Result<(), AppendError>
+    fn ask_all(&mut self, lane: Lane) -> Result<(), BenchError>
         ensures { OnOk result (taken self.new ≡ taken self.old + lane.rounds) }
     {
         for turn in 0..lane.rounds {
@@ -82,7 +82,7 @@ impl Plain {
     }
 
     /// Runs an event, and keeps its entry or lets it go.
-    fn take(&mut self, event: HubEvent) -> Result<(), AppendError>
+    fn take(&mut self, event: HubEvent) -> Result<(), BenchError>
         requires no_link { link_number event.kind ≡ None }
         ensures { OnOk result (taken self.new ≡ taken self.old + 1) }
     {

@@ -4,8 +4,9 @@ ghost use Rattle.std.specs.Prelude.{◌≡◌, ◌+◌, ◌*◌, ◌<◌, ◌≤
 ghost use Rattle.ftp_switchboard.specs.Board.{holder_at};
 
 use crate::command::Search;
-use ftp_switchboard::{Looks, Switchboard, SwitchboardError, SwitchboardKey};
-use std::alloc::{AllocError, Global};
+use crate::error::BenchError;
+use ftp_switchboard::{Looks, Switchboard, SwitchboardKey};
+use std::alloc::Global;
 
 const CLIENT: u32 = 1;
 
@@ -15,32 +16,12 @@ const HOLDER: u64 = 1;
 /// The session that reserves.
 const SESSION: u64 = 2;
 
-/// Why looks were not counted.
-#[derive(Clone, Copy, Debug, PartialEq, Eq)]
-pub enum ReserveError {
-    /// No port was free, or one was held.
-    Port(SwitchboardError),
-    OutOfMemory,
-}
-
-impl From<AllocError> for ReserveError {
-    fn from(_: AllocError) -> ReserveError {
-        ReserveError::OutOfMemory
-    }
-}
-
-impl From<SwitchboardError> for ReserveError {
-    fn from(error: SwitchboardError) -> ReserveError {
-        ReserveError::Port(error)
-    }
-}
-
 /// Reserves ports as asked, and says how many words and pairs were looked at.
 ///
 /// # Proved
 ///
 /// - So many reservations take 1,059 looks each at most (`few`).
-pub fn count_looks(alloc: Global, search: Search) -> Result<u64, ReserveError>
+pub fn count_looks(alloc: Global, search: Search) -> Result<u64, BenchError>
     ensures few { IfOk result (λ n. n ≤ search.rounds * 1059) }
 {
     let mut board = Switchboard::new(alloc, 1, u16::MAX);
@@ -60,7 +41,7 @@ pub fn count_looks(alloc: Global, search: Search) -> Result<u64, ReserveError>
 /// # Proved
 ///
 /// - The client holds each port that it is to hold (`held`, `range`).
-fn hold_ports(board: &mut Switchboard, first: u16, end: u16) -> Result<(), ReserveError>
+fn hold_ports(board: &mut Switchboard, first: u16, end: u16) -> Result<(), BenchError>
     requires range { (board.old.lo ≡ 1) × (board.old.hi ≡ 65535) }
     ensures range { (board.new.lo ≡ 1) × (board.new.hi ≡ 65535) }
     ensures held { OnOk result ((p : ℕ) → 1 ≤ p → first ≤ p → p < end → holder_at board.new 1 p ≡ Some 1) }

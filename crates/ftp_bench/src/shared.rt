@@ -4,9 +4,9 @@ ghost use Rattle.std.specs.Prelude.{◌≡◌, ◌+◌, ◌-◌, ◌<◌, ◌≤
 ghost use Rattle.std.specs.Vec.{vec_len};
 ghost use Rattle.ftp_bench.specs.Appending.{events_in, threads_of};
 
-use crate::appending::AppendError;
 use crate::asking::{connect, user};
 use crate::command::Crew;
+use crate::error::BenchError;
 use crate::lane::Lane;
 use ftp_events::Answer;
 use ftp_options::Options;
@@ -25,7 +25,7 @@ pub fn share_all<R: Threads + Wait + Sync>(
     options: Options,
     crew: Crew,
     lane: Lane,
-) -> Result<u64, AppendError>
+) -> Result<u64, BenchError>
     ensures taken { IfOk result (λ n. n ≡ events_in lane) }
 {
     let blank = Blank::new(crew.threads() + 1);
@@ -40,7 +40,7 @@ fn share_branded<L: Serving + Send + Sync, R: Threads + Wait + Sync>(
     blank: Blank,
     crew: Crew,
     lane: Lane,
-) -> Result<u64, AppendError>
+) -> Result<u64, BenchError>
     requires name { blank.name ≡ L.name }
     requires parts { blank.parts ≡ L.parts }
     requires one_more { blank.parts ≡ threads_of crew + 1 }
@@ -58,7 +58,7 @@ fn settle<L: Serving>(
     hub: SharedHub<L>,
     shares: Vec<StepShare<L>>,
     lane: Lane,
-) -> Result<u64, AppendError>
+) -> Result<u64, BenchError>
     requires all { vec_len shares + 1 ≡ L.parts }
     requires counted { sum_by (λ s. s.count) shares.items ≡ events_in lane }
     ensures taken { IfOk result (λ n. n ≡ events_in lane) }
@@ -67,13 +67,13 @@ fn settle<L: Serving>(
         Ok(log) => {
             let taken = log.len();
             if taken > lane.events() {
-                return Err(AppendError::Others);
+                return Err(BenchError::Others);
             }
             Ok(taken)
         }
         // All shares that were given out are here.
         Err(SettleError::Missing { .. }) => unreachable!(),
-        Err(_) => Err(AppendError::OutOfMemory),
+        Err(_) => Err(BenchError::OutOfMemory),
     }
 }
 
@@ -88,7 +88,7 @@ fn work<L: Serving + Send + Sync, R: Threads + Wait + Sync>(
     hub: &SharedHub<L>,
     crew: Crew,
     lane: Lane,
-) -> Result<Vec<StepShare<L>>, AppendError>
+) -> Result<Vec<StepShare<L>>, BenchError>
     ensures threads { IfOk result (λ shares. vec_len shares ≡ threads_of crew) }
     ensures counted { IfOk result (λ shares. sum_by (λ s. s.count) shares.items ≡ events_in lane) }
 {
@@ -123,12 +123,12 @@ fn work<L: Serving + Send + Sync, R: Threads + Wait + Sync>(
 }
 
 /// A share with no step counted.
-fn fresh<L: Serving, R: Wait>(rt: &R, hub: &SharedHub<L>) -> Result<StepShare<L>, AppendError>
+fn fresh<L: Serving, R: Wait>(rt: &R, hub: &SharedHub<L>) -> Result<StepShare<L>, BenchError>
     ensures { IfOk result (λ share. share.count ≡ 0) }
 {
     match hub.share(rt) {
         Some(share) => Ok(share),
-        None => Err(AppendError::NoShare),
+        None => Err(BenchError::NoShare),
     }
 }
 
@@ -137,7 +137,7 @@ fn connect_all<L: Serving, R: Wait>(
     rt: &R,
     hub: &SharedHub<L>,
     lane: Lane,
-) -> Result<StepShare<L>, AppendError>
+) -> Result<StepShare<L>, BenchError>
     ensures { IfOk result (λ share. share.count ≡ lane.end - lane.first) }
 {
     let mut share = fresh(rt, hub)?;
@@ -154,7 +154,7 @@ fn ask_all<L: Serving, R: Wait>(
     hub: &SharedHub<L>,
     share: StepShare<L>,
     lane: Lane,
-) -> Result<StepShare<L>, AppendError>
+) -> Result<StepShare<L>, BenchError>
     ensures { IfOk result (λ s. s.count ≡ share.count + lane.rounds) }
 {
     let mut share = share;
@@ -172,17 +172,17 @@ fn ask_two<L: Serving + Send + Sync, R: Threads + Wait + Sync>(
     hub: &SharedHub<L>,
     shares: (StepShare<L>, StepShare<L>),
     lane: Lane,
-) -> Result<(StepShare<L>, StepShare<L>), AppendError>
+) -> Result<(StepShare<L>, StepShare<L>), BenchError>
     ensures { IfOk result (λ s. s.0.count + s.1.count ≡ shares.0.count + shares.1.count + lane.rounds) }
 {
     let (front, back) = lane.split();
     let (one, two) = shares;
     let (one, two) = thread::join(
         rt,
-        move || -> Result<StepShare<L>, AppendError>
+        move || -> Result<StepShare<L>, BenchError>
             ensures { IfOk result (λ s. s.count ≡ one.count + front.rounds) }
         { ask_all(rt, alloc, hub, one, front) },
-        move || -> Result<StepShare<L>, AppendError>
+        move || -> Result<StepShare<L>, BenchError>
             ensures { IfOk result (λ s. s.count ≡ two.count + back.rounds) }
         { ask_all(rt, alloc, hub, two, back) },
     );
@@ -197,16 +197,16 @@ fn ask_four<L: Serving + Send + Sync, R: Threads + Wait + Sync>(
     one: (StepShare<L>, StepShare<L>),
     two: (StepShare<L>, StepShare<L>),
     lane: Lane,
-) -> Result<((StepShare<L>, StepShare<L>), (StepShare<L>, StepShare<L>)), AppendError>
+) -> Result<((StepShare<L>, StepShare<L>), (StepShare<L>, StepShare<L>)), BenchError>
     ensures { IfOk result (λ s. s.0.0.count + s.0.1.count + (s.1.0.count + s.1.1.count) ≡ one.0.count + one.1.count + (two.0.count + two.1.count) + lane.rounds) }
 {
     let (front, back) = lane.split();
     let (one, two) = thread::join(
         rt,
-        move || -> Result<(StepShare<L>, StepShare<L>), AppendError>
+        move || -> Result<(StepShare<L>, StepShare<L>), BenchError>
             ensures { IfOk result (λ s. s.0.count + s.1.count ≡ one.0.count + one.1.count + front.rounds) }
         { ask_two(rt, alloc, hub, one, front) },
-        move || -> Result<(StepShare<L>, StepShare<L>), AppendError>
+        move || -> Result<(StepShare<L>, StepShare<L>), BenchError>
             ensures { IfOk result (λ s. s.0.count + s.1.count ≡ two.0.count + two.1.count + back.rounds) }
         { ask_two(rt, alloc, hub, two, back) },
     );
