@@ -37,14 +37,9 @@ pub fn record<R: Wait, W: Write>(
     }
     for _ in rt.forever() {
         text.clear();
-        match feed.next(rt) {
-            Ok(Some(entry)) => {
-                if put_entry(&mut text, &entry).is_err() {
-                    let _ = out.write_all(LOST);
-                    return;
-                }
-            }
-            Ok(None) => return,
+        match put_next(rt, feed, &mut text) {
+            Ok(true) => {}
+            Ok(false) => return,
             Err(EntriesLost) => {
                 let _ = out.write_all(LOST);
                 return;
@@ -53,6 +48,17 @@ pub fn record<R: Wait, W: Write>(
         if out.write_all(text.as_slice()).is_err() {
             return;
         }
+    }
+}
+
+// Writes the next entry of a feed, unless the server has ended. One for whose text there is no memory is lost.
+fn put_next<R: Wait>(rt: &R, feed: &JournalFeed, out: &mut Vec<u8>) -> Result<bool, EntriesLost> {
+    let Some(entry) = feed.next(rt)? else {
+        return Ok(false);
+    };
+    match put_entry(out, &entry) {
+        Ok(()) => Ok(true),
+        Err(AllocError) => Err(EntriesLost),
     }
 }
 
