@@ -53,15 +53,14 @@ impl<R: Wait + Files<File = File> + AllocGlobal + Copy + Drop> LogFile<R> {
     /// day of 1970.
     pub fn open(rt: R, path: &str, form: LogForm, start: u64) -> io::Result<LogFile<R>> {
         let alloc = rt.alloc();
-        let lines = Lines {
-            log: ServerLog::new(alloc, form, start),
-            file: file_at(&rt, path)?,
-        };
+        let file = file_at(&rt, path)?;
+        let path = String::from_str(alloc, path)?;
+        let log = ServerLog::new(alloc, form, start);
         Ok(LogFile {
             rt,
             alloc,
-            path: String::from_str(alloc, path)?,
-            lines: Mutex::new(lines),
+            path,
+            lines: Mutex::new(Lines { log, file }),
         })
     }
 

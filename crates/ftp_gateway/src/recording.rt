@@ -1,7 +1,7 @@
 //! The journal of a gateway, written as it grows.
 
 use crate::records::Records;
-use crate::refusal::tell;
+use crate::refusal::{Refusal, tell};
 use ftp_shared::{EntriesLost, JournalFeed};
 use std::sync::Wait;
 
@@ -15,22 +15,31 @@ pub fn record<R: Wait + Print + AllocGlobal + Drop>(
 ) {
     let mut has_failed = false;
     for _ in rt.forever() {
-        let entry = match feed.next(rt) {
-            Ok(Some(entry)) => entry,
-            Ok(None) => return,
-            Err(EntriesLost) => {
-                let _ = println!(rt; "{LOST}");
-                return;
-            }
-        };
-        match records.take(&entry) {
-            Ok(()) => has_failed = false,
-            Err(refusal) => {
+        match take_next(rt, feed, records) {
+            Ok(Some(Ok(()))) => has_failed = false,
+            Ok(Some(Err(refusal))) => {
                 if !has_failed {
                     let _ = tell(rt, &refusal);
                 }
                 has_failed = true;
             }
+            Ok(None) => return,
+            Err(EntriesLost) => {
+                let _ = println!(rt; "{LOST}");
+                return;
+            }
         }
+    }
+}
+
+// Writes what the next entry of a feed tells, unless the server has ended.
+fn take_next<R: Wait + Drop>(
+    rt: &R,
+    feed: &JournalFeed,
+    records: &Records<R>,
+) -> Result<Option<Result<(), Refusal>>, EntriesLost> {
+    match feed.next(rt)? {
+        Some(entry) => Ok(Some(records.take(&entry))),
+        None => Ok(None),
     }
 }

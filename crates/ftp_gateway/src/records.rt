@@ -65,45 +65,37 @@ impl<R: Wait + Drop> Records<R> {
 
     /// The files, for one more who has them.
     pub fn files(&self) -> Result<Arc<RecordFiles<R>, Global>, Refusal> {
-        match Arc::try_clone(&self.files) {
-            Ok(files) => Ok(files),
-            Err(_) => Err(Refusal::OutOfMemory),
-        }
+        Ok(Arc::try_clone(&self.files)?)
     }
 
     /// Writes what the next entry tells, wherever it can be written, and says where it cannot.
     pub fn take(&self, entry: &Entry) -> Result<(), Refusal> {
         let files = &*self.files;
-        let mut told = Ok(());
+        let mut failed = None;
         for log in &files.logs {
             if log.take(entry).is_err() {
-                told = Err(unwritable(files.alloc, log.path().as_bytes()));
+                failed = Some(log.path());
             }
         }
         if let (Some(counts), Some(metrics)) = (&self.counts, &files.metrics) {
             if counts.lock(&self.rt).take(entry, metrics).is_err() {
-                told = Err(unwritable(files.alloc, metrics.path().as_bytes()));
+                failed = Some(metrics.path());
             }
         }
-        told
+        match failed {
+            Some(path) => Err(unwritable(files.alloc, path.as_bytes())),
+            None => Ok(()),
+        }
     }
 }
 
 impl<R: Wait + Files<File = File> + Clock + AllocGlobal + Copy + Drop> Records<R> {
     /// Opens the files that a configuration names, for the journal of a server with these options, and writes the first counts.
     pub fn open(rt: R, config: &GatewayConfig, options: &Options) -> Result<Records<R>, Refusal> {
-        let alloc = rt.alloc();
         let files = RecordFiles::open(rt, config)?;
-        let counts = match &files.metrics {
-            Some(metrics) => Some(Mutex::new(RunningCounts::new(
-                alloc,
-                options.copy(alloc)?,
-                metrics,
-            )?)),
-            None => None,
-        };
+        let counts = files.first_counts(options)?;
         files.write_metrics()?;
-        match Arc::new(alloc, files) {
+        match Arc::new(rt.alloc(), files) {
             Ok(files) => Ok(Records { rt, files, counts }),
             Err(_) => Err(Refusal::OutOfMemory),
         }
@@ -167,6 +159,15 @@ impl<R: Wait + Files<File = File> + Clock + AllocGlobal + Copy + Drop> RecordFil
             }
             None => Err(unwritable(self.alloc, path.as_slice())),
         }
+    }
+
+    // What is counted of a server with these options, where that is told.
+    fn first_counts(&self, options: &Options) -> Result<Option<Mutex<RunningCounts>>, AllocError> {
+        let Some(metrics) = &self.metrics else {
+            return Ok(None);
+        };
+        let counts = RunningCounts::new(self.alloc, options.copy(self.alloc)?, metrics)?;
+        Ok(Some(Mutex::new(counts)))
     }
 
     /// Has each log go on in the file that stands at its path then.

@@ -243,26 +243,25 @@ fn make_counting<R: GatewayRuntime>(
     })
 }
 
-/// The gateway that the configuration file at a path describes.
-pub fn prepare<R: GatewayRuntime>(rt: &R, path: &str) -> Result<Gateway<R>, Refusal> {
+// A gateway over users.
+fn gateway_over<R: GatewayRuntime>(
+    rt: &R,
+    config: &GatewayConfig,
+    options: Options,
+    records: Records<R>,
+    users: &CurrentUsers<R>,
+) -> Result<Gateway<R>, Refusal> {
     let alloc = rt.alloc();
-    let Setup {
-        config,
-        options,
-        users,
-    } = read_setup(rt, path)?;
-    let records = Records::open(*rt, &config, &options)?;
-    let users = first_users(rt, config.whole_uploads, users)?;
-    let depot = depot_of(rt, &config, &options, &users)?;
-    let check = check_by(rt, &users)?;
+    let depot = depot_of(rt, config, &options, users)?;
+    let check = check_by(rt, users)?;
     let Counting {
         control,
         transfers,
         logins,
         waiting,
-    } = make_counting(rt, &config, users, records.files()?)?;
+    } = make_counting(rt, config, users.share()?, records.files()?)?;
     Ok(Gateway {
-        plan: make_plan(alloc, &config, options)?,
+        plan: make_plan(alloc, config, options)?,
         check,
         depot,
         control,
@@ -272,4 +271,16 @@ pub fn prepare<R: GatewayRuntime>(rt: &R, path: &str) -> Result<Gateway<R>, Refu
         feed: shared(alloc, JournalFeed::new(alloc, MOST_WAITING))?,
         waiting,
     })
+}
+
+/// The gateway that the configuration file at a path describes.
+pub fn prepare<R: GatewayRuntime>(rt: &R, path: &str) -> Result<Gateway<R>, Refusal> {
+    let Setup {
+        config,
+        options,
+        users,
+    } = read_setup(rt, path)?;
+    let records = Records::open(*rt, &config, &options)?;
+    let users = first_users(rt, config.whole_uploads, users)?;
+    gateway_over(rt, &config, options, records, &users)
 }
