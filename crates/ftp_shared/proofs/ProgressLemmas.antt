@@ -1,31 +1,25 @@
 -- A job that moves piece by piece.
-use Rattle.std.proofs.Common.{◌≡◌, ◌∙◌, inl, inr, refl, sym, ap, ℕ, ◌+◌, ◌-◌, ◌≤◌, Bool, true, false, List, Option, None, arith}
+use Rattle.std.proofs.Common.{◌≡◌, ◌∙◌, inl, inr, refl, sym, ap, ℕ, ◌+◌, ◌-◌, ◌≤◌, Bool, true, false, arith}
 use Rattle.std.specs.Prelude.{◌⊎◌, Result, Ok, Err, OnOk, OnErr}
 use Rattle.ftp_base.specs.declared.fault.LinkFault.{LinkFault}
-use Rattle.ftp_base.specs.Calls.{AllWell, Calls}
+use Rattle.ftp_base.specs.Calls.{AllWell}
 use Rattle.ftp_base.specs.Edge.{EdgeView, Takes}
 use Rattle.ftp_base.specs.Kept.{CountsOn, OnlyCloses}
 use Rattle.ftp_base.specs.Memory as memory
-use Rattle.ftp_base.specs.Outside.{HasRisen, Sending}
-use Rattle.ftp_base.specs.Storage.{Files, Rule}
+use Rattle.ftp_base.specs.Outside.{HasRisen}
 use Rattle.ftp_base.proofs.KeptLemmas.{CountsOn-more, CountsOn-same}
 use Rattle.ftp_events.specs.Leads.{Views, told_by}
-use Rattle.ftp_transfer.specs.declared.job.Completion.{Completion}
-use Rattle.ftp_transfer.specs.declared.job.Completion.TheVariants.{OutOfMemory}
 use Rattle.ftp_transfer.specs.declared.job.Job.{Job}
 use Rattle.ftp_transfer.specs.declared.job.Outcome.{Outcome}
-use Rattle.ftp_transfer.specs.Ran.{Told, told, Moves, Ran, Went}
+use Rattle.ftp_transfer.specs.Ran.{Told, Ran, Went}
 use Rattle.ftp_transfer.specs.Transfer.{is_retrieve, suits}
 use Rattle.ftp_transfer.proofs.CleanLemmas.{clean-done}
-use Rattle.ftp_transfer.proofs.GoesOn.{Counted, behind, goes-on, went-more}
+use Rattle.ftp_transfer.proofs.CloseLemmas.{Moves-closed}
+use Rattle.ftp_transfer.proofs.GoesOn.{Counted, HasMoved, moves-behind, went-behind}
 use Rattle.ftp_shared.specs.Moments.{behind_moments}
 use Rattle.ftp_shared.specs.Reports.{StillRuns}
 use Rattle.ftp_shared.specs.Runs.{RunsOn, StopsOn, site}
 use Rattle.ftp_shared.proofs.MomentLemmas.{takes-more, takes-none}
-
--- what moved up to here: nothing, or a part of the run
-abbrev pub HasMoved : Job → Job → Told → Told → Type 0
-HasMoved job next old mid = ((next ≡ job) × (mid ≡ old)) ⊎ Went job old mid (next.done - job.done)
 
 -- how far a job has come, and how much of that its share tells
 pub record Progress {S L : Type 0} (v : Views S L) (job next told : Job) (storage storage_now : S) (link link_now : L) (edge edge_now : EdgeView) (count share share_now : ℕ) : Type 0 where
@@ -42,36 +36,6 @@ pub record Progress {S L : Type 0} (v : Views S L) (job next told : Job) (storag
   pub taken : Takes (behind_moments moments) edge edge_now
   pub kept : share ≤ share_now
   pub enough : share_now ≤ share + moments
-
--- the same job, but for what moved, is that behind these bytes
-behind-done : (job next : Job) → job.done ≤ next.done → next ≡ record job { done = next.done } → next ≡ behind job (next.done - job.done)
-behind-done job next more same =
-    let total : next.done ≡ job.done + (next.done - job.done) = omega (arith, more) in
-    same ∙ ap (λ (n : ℕ). record job { done = n }) total
-
--- a run that ends behind what moved up to here
-moves-behind : (job next : Job) (old mid new : Told) (m : ℕ) (r : Completion) (fault : Option LinkFault) → Counted old mid → Counted mid new →
-    job.done ≤ next.done → next ≡ record job { done = next.done } → suits r job.command ≡ true →
-    HasMoved job next old mid → Moves next mid new m r fault →
-    Moves job old new ((next.done + m) - job.done) r fault
-moves-behind job next old mid new m r fault counts counts' more same fits (inl (is, at_start)) moves =
-    let sum : (next.done + m) - job.done ≡ m = omega (arith, ap (λ (j : Job). j.done) is) in
-    rw sum (rw (is, at_start) at moves)
-moves-behind job next old mid new m r fault counts counts' more same fits (inr went) moves =
-    let sum : (next.done + m) - job.done ≡ (next.done - job.done) + m = omega (arith, more) in
-    rw sum (goes-on job old mid new (next.done - job.done) m r fault counts counts' fits went (rw (behind-done job next more same) at moves))
-
--- a part that went on behind what moved up to here
-went-behind : (job next : Job) (old mid new : Told) (m : ℕ) → Counted old mid → Counted mid new →
-    job.done ≤ next.done → next ≡ record job { done = next.done } →
-    HasMoved job next old mid → Went next mid new m →
-    Went job old new ((next.done + m) - job.done)
-went-behind job next old mid new m counts counts' more same (inl (is, at_start)) went =
-    let sum : (next.done + m) - job.done ≡ m = omega (arith, ap (λ (j : Job). j.done) is) in
-    rw sum (rw (is, at_start) at went)
-went-behind job next old mid new m counts counts' more same (inr first) went =
-    let sum : (next.done + m) - job.done ≡ (next.done - job.done) + m = omega (arith, more) in
-    rw sum (went-more job old mid new (next.done - job.done) m counts counts' first (rw (behind-done job next more same) at went))
 
 -- the link is as open as before
 as-open : (job next : Job) (old mid : Told) → HasMoved job next old mid → mid.sending.closed ≡ old.sending.closed
@@ -100,35 +64,6 @@ ran-behind job next old mid new outcome counts grew more same fits moved ran =
             | inr h ↦ inr (h.0 ∙ as-open job next old mid moved, h.1, h.2)
           ];
     }
-
--- the close of a link changes nothing of what moved
-shut-moves : (job : Job) (old : Told) (files : Option Files) (rule : Rule) (storage_faults : ℕ) (storage_calls : Option (Calls ℕ)) (left left' : Option (List ℕ)) (sending sending' : Sending)
-    (link_faults : ℕ) (link_calls : Option (Calls (ℕ × LinkFault))) (m : ℕ) (r : Completion) (fault : Option LinkFault) →
-    left' ≡ left → sending'.sent ≡ sending.sent → sending'.last_fault ≡ sending.last_fault →
-    Moves job old (told files rule storage_faults storage_calls left sending link_faults link_calls) m r fault →
-    Moves job old (told files rule storage_faults storage_calls left' sending' link_faults link_calls) m r fault
-shut-moves job old files rule storage_faults storage_calls left left' sending sending' link_faults link_calls m r fault same_left sent last moves =
-    rw same_left
-    (record {
-      rule = moves.rule;
-      owned = moves.owned;
-      begun = moves.begun;
-      sent = rw sent moves.sent;
-      within = moves.within;
-      whole = moves.whole;
-      silent = λ store. sent ∙ moves.silent store;
-      kept = moves.kept;
-      stored = moves.stored;
-      grown = moves.grown;
-      written = moves.written;
-      countable = moves.countable;
-      cause = rw last moves.cause;
-      refused = moves.refused;
-      unrefused = moves.unrefused;
-      refused_last = moves.refused_last;
-      link_well = moves.link_well;
-      storage_well = moves.storage_well;
-    })
 
 module _ {S L : Type 0} (v : Views S L) where
   -- counts of faults that were kept did not fall
@@ -228,10 +163,7 @@ module _ {S L : Type 0} (v : Views S L) where
             not_before = omega (arith, so_far.link_counts.count, link.count);
             not_after = closes.counts.count;
             calls = v.link_calls l2;
-            moves =
-                rw less
-                (shut-moves job (told_by v s l) (v.files s2) (v.rule s2) (v.storage_faults s2) (v.storage_calls s2) (v.left l2) (v.left l3) (v.sending l2) (v.sending l3)
-                (v.link_faults l2) (v.link_calls l2) m OutOfMemory None closes.same_left closes.sent closes.last_fault part.moves);
+            moves = rw less (Moves-closed (v.left l3) (v.sending l3) closes.same_left closes.sent closes.last_fault part.moves);
             closed = shut r closed well same rose failed part.closed;
           };
           storage_counts = CountsOn-more so_far.storage_counts storage;
