@@ -1,10 +1,13 @@
 //! What the server does because of an event.
 
+ghost use Rattle.std.specs.Prelude.{◌≡◌, IfOk};
+
 use ftp_base::{EventMeta, Notice, Reply};
 use ftp_transfer::Ticket;
+use std::alloc::{AllocError, Global};
 use std::marker::Model;
 
-#[derive(PartialEq, Eq, Drop)]
+#[derive(Clone, PartialEq, Eq, Drop)]
 pub enum Action {
     /// The transfer has ended; the session is told of it where it is live.
     Completed {
@@ -36,6 +39,15 @@ pub enum Action {
         ticket: Ticket,
         number: u64,
     },
+}
+
+impl Action {
+    /// Gives an equal action.
+    pub fn copy(&self, _alloc: Global) -> Result<Action, AllocError>
+        ensures { IfOk result (λ copy. copy ≡ self.now) }
+    {
+        self.clone()
+    }
 }
 
 /// Actions in their order, which contracts see as a list.
@@ -76,8 +88,6 @@ impl Eq for Actions {
 }
 
 impl Actions {
-    ghost use Rattle.std.specs.Prelude.{◌≡◌};
-
     /// Takes over the actions of a vector.
     pub fn from_vec(items: Vec<Action>) -> Actions
         ensures { result ≡ items.items }

@@ -6,44 +6,6 @@ use crate::action::{Action, Actions};
 use crate::entry::Entry;
 use std::alloc::{AllocError, Global};
 
-impl Action {
-    /// Gives an equal action.
-    pub fn copy(&self, alloc: Global) -> Result<Action, AllocError>
-        ensures { IfOk result (λ copy. copy ≡ self.now) }
-    {
-        match self {
-            Action::Completed { ticket, delivered } => Ok(Action::Completed {
-                ticket: *ticket,
-                delivered: *delivered,
-            }),
-            Action::Cancelled { ticket } => Ok(Action::Cancelled { ticket: *ticket }),
-            Action::Close { number } => Ok(Action::Close { number: *number }),
-            Action::Notify {
-                session,
-                meta,
-                what,
-            } => Ok(Action::Notify {
-                session: *session,
-                meta: meta.copy(alloc)?,
-                what: what.copy(alloc)?,
-            }),
-            Action::Reply {
-                session,
-                delay,
-                reply,
-            } => Ok(Action::Reply {
-                session: *session,
-                delay: *delay,
-                reply: reply.copy(alloc)?,
-            }),
-            Action::Start { ticket, number } => Ok(Action::Start {
-                ticket: *ticket,
-                number: *number,
-            }),
-        }
-    }
-}
-
 impl Actions {
     /// Gives equal actions.
     pub fn copy(&self, alloc: Global) -> Result<Actions, AllocError>
