@@ -7,7 +7,7 @@ ghost use Rattle.ftp_extras.specs.Texts.{resolved, sent_text};
 ghost use Rattle.ftp_extras.specs.Answers.{refuses_by, date_fact, facts_line, size_reply, date_reply, facts_reply, found_reply, dated_reply, done_reply, looked_at, word_reply, refusal_for, refused_for, transfer_reply, reply_by, named_by, kept_for_next};
 
 use crate::archive::{Found, Request, Response};
-use crate::extra::Extra;
+use crate::extra::{Extra, ExtraResult};
 use crate::reply_lines::{put_line, say, say_many, tell};
 use crate::text::{resolved, sent};
 use crate::word::{ExtraWord, word_of};
@@ -60,7 +60,7 @@ fn facts_line(alloc: Global, path: &[u8], found: Found) -> Result<Vec<u8>, Alloc
 }
 
 // MLST.
-fn facts_reply(alloc: Global, path: &[u8], found: Found) -> Result<Extra, AllocError>
+fn facts_reply(alloc: Global, path: &[u8], found: Found) -> ExtraResult
     ensures { IfOk result (λ x. x ≡ facts_reply path.now found) }
 {
     let line = facts_line(alloc, path, found)?;
@@ -77,7 +77,7 @@ fn digits_of(alloc: Global, n: u64) -> Result<Vec<u8>, AllocError>
 }
 
 // SIZE.
-fn size_reply(alloc: Global, found: Found) -> Result<Extra, AllocError>
+fn size_reply(alloc: Global, found: Found) -> ExtraResult
     ensures { IfOk result (λ x. x ≡ size_reply found) }
 {
     if found.meta.is_dir {
@@ -88,7 +88,7 @@ fn size_reply(alloc: Global, found: Found) -> Result<Extra, AllocError>
 }
 
 // MDTM.
-fn date_reply(alloc: Global, modified: Option<[u8; 14]>) -> Result<Extra, AllocError>
+fn date_reply(alloc: Global, modified: Option<[u8; 14]>) -> ExtraResult
     ensures { IfOk result (λ x. x ≡ date_reply modified) }
 {
     match modified {
@@ -98,12 +98,7 @@ fn date_reply(alloc: Global, modified: Option<[u8; 14]>) -> Result<Extra, AllocE
 }
 
 // What is told of what stands at a path.
-fn found_reply(
-    alloc: Global,
-    word: ExtraWord,
-    path: &[u8],
-    found: Found,
-) -> Result<Extra, AllocError>
+fn found_reply(alloc: Global, word: ExtraWord, path: &[u8], found: Found) -> ExtraResult
     ensures { IfOk result (λ x. x ≡ found_reply word path.now found) }
 {
     match word {
@@ -116,7 +111,7 @@ fn found_reply(
 }
 
 // MFMT.
-fn dated_reply(alloc: Global, path: &[u8], at: &[u8]) -> Result<Extra, AllocError>
+fn dated_reply(alloc: Global, path: &[u8], at: &[u8]) -> ExtraResult
     ensures { IfOk result (λ x. x ≡ dated_reply path.now at.now) }
 {
     let path = sent_path(alloc, path)?;
@@ -128,7 +123,7 @@ fn dated_reply(alloc: Global, path: &[u8], at: &[u8]) -> Result<Extra, AllocErro
 }
 
 // What is told of a change.
-fn done_reply(alloc: Global, request: Request) -> Result<Extra, AllocError>
+fn done_reply(alloc: Global, request: Request) -> ExtraResult
     ensures { IfOk result (λ x. x ≡ done_reply request) }
 {
     match request {
@@ -155,12 +150,7 @@ fn looked_at(request: &Request) -> &[u8]
 }
 
 // What is told on a word.
-fn word_reply(
-    alloc: Global,
-    word: ExtraWord,
-    request: Request,
-    response: Response,
-) -> Result<Extra, AllocError>
+fn word_reply(alloc: Global, word: ExtraWord, request: Request, response: Response) -> ExtraResult
     ensures { IfOk result (λ x. x ≡ word_reply word request response) }
 {
     match response {
@@ -211,7 +201,7 @@ pub(crate) fn reply_by(
     command: &Command,
     request: Request,
     response: Response,
-) -> Result<Extra, AllocError>
+) -> ExtraResult
     ensures { IfOk result (λ x. x ≡ reply_by command.now request response) }
 {
     match command {

@@ -34,6 +34,9 @@ pub enum Extra {
     Epsv,
 }
 
+/// What is done on a line, where memory is found.
+pub type ExtraResult = Result<Extra, AllocError>;
+
 /// Does more than the profile on some lines.
 pub trait Extras {
     // What is kept from a line for the next one.
@@ -57,12 +60,7 @@ pub trait Extras {
     /// - Nothing is done in place of a command of the profile, but that a transfer may be refused as the storage refuses
     ///   (`beside`).
     /// - What is said is whole replies, and no password is made up (`whole`).
-    fn hear(
-        &mut self,
-        asker: Asker<'_>,
-        command: &Command,
-        line: &[u8],
-    ) -> Result<Extra, AllocError>
+    fn hear(&mut self, asker: Asker<'_>, command: &Command, line: &[u8]) -> ExtraResult
         requires password { gives_password command.now ≡ false }
         ensures may { IfOk result (λ x. may self.old (seen asker.entry) (pending self.old) command.now line.now x (pending self.new)) }
         ensures kept { (who : AskerView) (before : Option (List ℕ)) (c : Command) (l : List ℕ) (x : Extra) (after : Option (List ℕ)) →
@@ -83,12 +81,7 @@ impl Extras for NoExtras {
 
     ghost faults = { λ _. 0 };
 
-    fn hear(
-        &mut self,
-        _asker: Asker<'_>,
-        _command: &Command,
-        _line: &[u8],
-    ) -> Result<Extra, AllocError> {
+    fn hear(&mut self, _asker: Asker<'_>, _command: &Command, _line: &[u8]) -> ExtraResult {
         Ok(Extra::Pass)
     }
 }

@@ -11,7 +11,7 @@ ghost use Rattle.ftp_extras.specs.Extra.{AskerView, seen, is_beside, IsWhole, gi
 
 use crate::answer::{kept_for_next, reply_by};
 use crate::archive::{Archive, Request, Response};
-use crate::extra::{Asker, Extra, Extras};
+use crate::extra::{Asker, ExtraResult, Extras};
 use crate::plan::{Offers, Plan, plan_of};
 use ftp_base::{Bytes, StoreError};
 use ftp_control::Command;
@@ -109,12 +109,7 @@ impl<S: Archive + Drop> FileExtras<S> {
     }
 
     // Asks the archive, and says what is done by its answer.
-    fn carry_out(
-        &mut self,
-        asker: &Asker<'_>,
-        command: &Command,
-        request: Request,
-    ) -> Result<Extra, AllocError>
+    fn carry_out(&mut self, asker: &Asker<'_>, command: &Command, request: Request) -> ExtraResult
         requires sound { is_sound request ≡ true }
         ensures done { IfOk result (λ x. IsDone (λ r s. IsTold (S.refusals self.old.store) (S.files self.old.store) (S.files self.new.store) (S.faults self.old.store, S.faults self.new.store) (asking_user (seen asker.now)) r s) command.now (Ask request) x self.new.pending) }
         ensures archive_kept { ArchiveKept S.refusals S.faults self.old.store self.new.store }
@@ -141,12 +136,7 @@ impl<S: Archive + Drop> Extras for FileExtras<S> {
     //   (`done`).
     // - RNTO moves only what RNFR found on the line before; no word but the open ones does anything before the login
     //   (`may`, `done`).
-    fn hear(
-        &mut self,
-        asker: Asker<'_>,
-        command: &Command,
-        line: &[u8],
-    ) -> Result<Extra, AllocError>
+    fn hear(&mut self, asker: Asker<'_>, command: &Command, line: &[u8]) -> ExtraResult
         requires password { gives_password command.now ≡ false }
         ensures may { IfOk result (λ x. MayDo self.old.offers (seen asker.entry) self.old.pending command.now line.now x self.new.pending) }
         ensures done { IfOk result (λ x. DoneBy (S.refusals self.old.store) (S.files self.old.store) (S.files self.new.store) (S.faults self.old.store, S.faults self.new.store) self.old.offers (seen asker.entry) self.old.pending command.now line.now x self.new.pending) }

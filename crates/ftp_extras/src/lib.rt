@@ -17,7 +17,7 @@ mod text;
 mod word;
 
 pub use archive::{Archive, Found, Request, Response};
-pub use extra::{Asker, Extra, Extras, NoExtras};
+pub use extra::{Asker, Extra, ExtraResult, Extras, NoExtras};
 pub use file_extras::FileExtras;
 pub use laws::{renames_follow_looks, words_wait_for_login};
 pub use moment::is_moment;

@@ -5,7 +5,7 @@ ghost use Rattle.std.specs.List.{flat_map};
 ghost use Rattle.ftp_extras.specs.ReplyLines.{OneLine, ManyLines, line_with_end, reply_bytes, epsv_reply, is_whole_reply};
 ghost use Rattle.ftp_extras.specs.Extra.{says_text, tells};
 
-use crate::extra::Extra;
+use crate::extra::{Extra, ExtraResult};
 use ftp_base::{Bytes, ControlChanMsg, Reply, ReplyCode, ReplyText};
 use std::alloc::{AllocError, Global};
 
@@ -19,7 +19,7 @@ pub(crate) fn put_line(text: &mut Vec<u8>, line: &[u8]) -> Result<(), AllocError
 }
 
 /// A reply of one line, of a code that the hub does not send.
-pub(crate) fn say(alloc: Global, code: &[u8], text: &[u8]) -> Result<Extra, AllocError>
+pub(crate) fn say(alloc: Global, code: &[u8], text: &[u8]) -> ExtraResult
     ensures { IfOk result (λ x. x ≡ says_text (OneLine code.now text.now)) }
 {
     let mut line = Vec::from_slice(alloc, code)?;
@@ -35,7 +35,7 @@ pub(crate) fn say_many(
     first: &[u8],
     middle: &[u8],
     last: &[u8],
-) -> Result<Extra, AllocError>
+) -> ExtraResult
     ensures { IfOk result (λ x. (lines : List (List ℕ)) → middle.now ≡ flat_map line_with_end lines → x ≡ says_text (ManyLines code.now first.now lines last.now)) }
 {
     let mut text = Vec::from_slice(alloc, code)?;
@@ -68,7 +68,7 @@ pub fn put_epsv_reply(text: &mut Vec<u8>, port: u16) -> Result<(), AllocError>
 }
 
 /// A reply that the hub sends.
-pub(crate) fn tell(alloc: Global, code: ReplyCode, text: &[u8]) -> Result<Extra, AllocError>
+pub(crate) fn tell(alloc: Global, code: ReplyCode, text: &[u8]) -> ExtraResult
     ensures { IfOk result (λ x. x ≡ tells code text.now) }
 {
     let msg = ReplyText::from_bytes(Bytes::from_slice(alloc, text)?);

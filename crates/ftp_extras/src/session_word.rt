@@ -7,7 +7,7 @@ ghost use Rattle.ftp_extras.specs.Extra.{seen};
 ghost use Rattle.ftp_extras.specs.ReplyLines.{line_with_end};
 ghost use Rattle.ftp_extras.specs.Plan.{is_spelled, directory_reply, up_extra, features, feature_reply, option_reply, user_line, place_line, status_lines, session_status, status_reply, only_one, epsv_extra, protection_reply, session_extra};
 
-use crate::extra::{Asker, Extra};
+use crate::extra::{Asker, Extra, ExtraResult};
 use crate::plan::Offers;
 use crate::reply_lines::{put_line, say, say_many, tell};
 use crate::text::{put_quoted, resolved, sent};
@@ -25,7 +25,7 @@ fn is_spelled(name: &[u8], bytes: &[u8]) -> bool
 }
 
 // PWD.
-fn directory_reply(alloc: Global, asker: &Asker<'_>) -> Result<Extra, AllocError>
+fn directory_reply(alloc: Global, asker: &Asker<'_>) -> ExtraResult
     ensures { IfOk result (λ x. x ≡ directory_reply (seen asker.now)) }
 {
     let path = resolved(alloc, asker.cwd.as_slice())?;
@@ -36,7 +36,7 @@ fn directory_reply(alloc: Global, asker: &Asker<'_>) -> Result<Extra, AllocError
 }
 
 // CDUP.
-fn up_extra(alloc: Global, asker: &Asker<'_>) -> Result<Extra, AllocError>
+fn up_extra(alloc: Global, asker: &Asker<'_>) -> ExtraResult
     ensures { IfOk result (λ x. x ≡ up_extra (seen asker.now)) }
 {
     let up = Bytes::from_slice(alloc, b"..")?;
@@ -69,7 +69,7 @@ fn features(alloc: Global, offers: Offers) -> Result<Vec<u8>, AllocError>
 }
 
 // FEAT.
-fn feature_reply(alloc: Global, offers: Offers) -> Result<Extra, AllocError>
+fn feature_reply(alloc: Global, offers: Offers) -> ExtraResult
     ensures { IfOk result (λ x. x ≡ feature_reply offers) }
 {
     let lines = features(alloc, offers)?;
@@ -84,7 +84,7 @@ fn feature_reply(alloc: Global, offers: Offers) -> Result<Extra, AllocError>
 }
 
 // OPTS: names are always UTF-8, and MLST always shows all its facts.
-fn option_reply(alloc: Global, parameter: &[u8]) -> Result<Extra, AllocError>
+fn option_reply(alloc: Global, parameter: &[u8]) -> ExtraResult
     ensures { IfOk result (λ x. x ≡ option_reply parameter.now) }
 {
     if is_spelled(b"utf8", parameter) || is_spelled(b"utf8 on", parameter) {
@@ -141,7 +141,7 @@ fn status_lines(alloc: Global, asker: &Asker<'_>) -> Result<Vec<u8>, AllocError>
 }
 
 // STAT: the status of the session.
-fn session_status(alloc: Global, asker: &Asker<'_>) -> Result<Extra, AllocError>
+fn session_status(alloc: Global, asker: &Asker<'_>) -> ExtraResult
     ensures { IfOk result (λ x. x ≡ session_status (seen asker.now)) }
 {
     let lines = status_lines(alloc, asker)?;
@@ -150,7 +150,7 @@ fn session_status(alloc: Global, asker: &Asker<'_>) -> Result<Extra, AllocError>
 }
 
 // STAT tells of the session, and not of files.
-fn status_reply(alloc: Global, asker: &Asker<'_>, parameter: &[u8]) -> Result<Extra, AllocError>
+fn status_reply(alloc: Global, asker: &Asker<'_>, parameter: &[u8]) -> ExtraResult
     ensures { IfOk result (λ x. x ≡ status_reply (seen asker.now) parameter.now) }
 {
     if parameter.is_empty() {
@@ -160,7 +160,7 @@ fn status_reply(alloc: Global, asker: &Asker<'_>, parameter: &[u8]) -> Result<Ex
 }
 
 // MODE and STRU: there is one.
-fn only_one(alloc: Global, letter: &[u8], parameter: &[u8]) -> Result<Extra, AllocError>
+fn only_one(alloc: Global, letter: &[u8], parameter: &[u8]) -> ExtraResult
     ensures { IfOk result (λ x. x ≡ only_one letter.now parameter.now) }
 {
     if is_spelled(letter, parameter) {
@@ -170,7 +170,7 @@ fn only_one(alloc: Global, letter: &[u8], parameter: &[u8]) -> Result<Extra, All
 }
 
 // EPSV: as a PASV, over IP version 4.
-fn epsv_extra(alloc: Global, parameter: &[u8]) -> Result<Extra, AllocError>
+fn epsv_extra(alloc: Global, parameter: &[u8]) -> ExtraResult
     ensures { IfOk result (λ x. x ≡ epsv_extra parameter.now) }
 {
     if parameter.is_empty() || is_spelled(b"1", parameter) {
@@ -183,7 +183,7 @@ fn epsv_extra(alloc: Global, parameter: &[u8]) -> Result<Extra, AllocError>
 }
 
 // PROT: a proxy protects each connection.
-fn protection_reply(alloc: Global, parameter: &[u8]) -> Result<Extra, AllocError>
+fn protection_reply(alloc: Global, parameter: &[u8]) -> ExtraResult
     ensures { IfOk result (λ x. x ≡ protection_reply parameter.now) }
 {
     if is_spelled(b"p", parameter) {
@@ -199,7 +199,7 @@ pub(crate) fn session_extra(
     asker: &Asker<'_>,
     word: ExtraWord,
     parameter: &[u8],
-) -> Result<Extra, AllocError>
+) -> ExtraResult
     ensures { IfOk result (λ x. x ≡ session_extra offers (seen asker.now) word parameter.now) }
 {
     match word {
