@@ -26,3 +26,4 @@ pub mod TicketLemmas
 pub mod TakenLemmas
 pub mod TallyLemmas
 mod LogExamples
+pub mod PutLemmas

@@ -10,8 +10,11 @@ use Rattle.ftp_events.specs.declared.status.Status7.{Status7}
 use Rattle.ftp_events.specs.declared.status.Status7.TheVariants as status
 use Rattle.ftp_events.specs.Counts.{failure_count, opened_count, received_bytes, sent_bytes, status_count}
 use Rattle.ftp_events.specs.Session.{live_count}
+use Rattle.ftp_events.specs.declared.tallies.PerCommand.{PerCommand}
 use Rattle.ftp_events.specs.Tallies.{of_status, of_word, saturated}
 use Rattle.ftp_text.specs.Fields.{number}
+use Rattle.ftp_audit.specs.declared.metrics.Direction.{Direction}
+use Rattle.ftp_audit.specs.declared.metrics.Direction.TheVariants.{Sent, Received}
 use Rattle.ftp_audit.specs.Forms.{command_text}
 
 -- the lines that say what a metric is
@@ -41,9 +44,19 @@ unfoldable pub sample_text : List ℕ → CommandWord → List ℕ → List ℕ 
 sample_text name w label value n =
     name ++ 123 ∷ label_text (codes "command") (command_text w) ++ 44 ∷ label_text label value ++ 125 ∷ number n ++ 10 ∷ []
 
+-- the words of directions
+abbrev pub direction_text : Direction → List ℕ
+direction_text Sent = codes "sent"
+direction_text Received = codes "received"
+
+-- the bytes of each command in a direction
+abbrev pub direction_bytes : Counters → Direction → PerCommand
+direction_bytes c Sent = c.sent
+direction_bytes c Received = c.received
+
 -- the bytes of a command in a direction
-unfoldable pub bytes_sample : List ℕ → (CommandWord → ℕ) → CommandWord → List ℕ
-bytes_sample direction bytes w = sample_text (codes "ftp_bytes_total") w (codes "direction") direction (bytes w)
+unfoldable pub bytes_sample : Direction → (CommandWord → ℕ) → CommandWord → List ℕ
+bytes_sample direction bytes w = sample_text (codes "ftp_bytes_total") w (codes "direction") (direction_text direction) (bytes w)
 
 -- the transfers by a command with a status
 unfoldable pub transfers_sample : (CommandWord → Status7 → ℕ) → CommandWord → Status7 → List ℕ
@@ -67,58 +80,45 @@ statuses =
     status.Success ∷ status.ClientError ∷ status.ServerError ∷ status.PermissionError
     ∷ status.ClientInterrupted ∷ status.NetworkError ∷ status.UnknownError ∷ []
 
--- the bytes that commands have sent
-unfoldable pub sent_text : (CommandWord → ℕ) → List ℕ
-sent_text sent = flat_map (bytes_sample (codes "sent") sent) senders
-
--- the bytes that commands have received
-unfoldable pub received_text : (CommandWord → ℕ) → List ℕ
-received_text received = flat_map (bytes_sample (codes "received") received) receivers
+-- the bytes of commands in a direction
+unfoldable pub moved_text : Direction → (CommandWord → ℕ) → List CommandWord → List ℕ
+moved_text direction bytes words = flat_map (bytes_sample direction bytes) words
 
 -- the transfers by a command with each status
 unfoldable pub ended_sample : (CommandWord → Status7 → ℕ) → CommandWord → List ℕ
 ended_sample ended w = flat_map (transfers_sample ended w) statuses
 
--- the transfers by each command with each status
-unfoldable pub ended_text : (CommandWord → Status7 → ℕ) → List ℕ
-ended_text ended = flat_map (ended_sample ended) movers
+-- the transfers by each of these commands with each status
+unfoldable pub ended_text : (CommandWord → Status7 → ℕ) → List CommandWord → List ℕ
+ended_text ended words = flat_map (ended_sample ended) words
 
--- the sessions that are live
-unfoldable pub live_text : ℕ → List ℕ
-live_text n = plain_metric (codes "ftp_sessions") (codes "gauge") (codes "Sessions that are live.") n
+-- the sessions that are live, and those that were opened
+unfoldable pub sessions_text : ℕ → ℕ → List ℕ
+sessions_text live opened =
+    plain_metric (codes "ftp_sessions") (codes "gauge") (codes "Sessions that are live.") live
+    ++ plain_metric (codes "ftp_sessions_total") (codes "counter") (codes "Sessions that were opened.") opened
 
--- the sessions that were opened
-unfoldable pub opened_text : ℕ → List ℕ
-opened_text n = plain_metric (codes "ftp_sessions_total") (codes "counter") (codes "Sessions that were opened.") n
+-- the bytes that transfers have moved
+unfoldable pub bytes_text : (CommandWord → ℕ) → (CommandWord → ℕ) → List ℕ
+bytes_text sent received =
+    metric_head (codes "ftp_bytes_total") (codes "counter") (codes "Bytes that transfers have moved.")
+    ++ moved_text Sent sent senders ++ moved_text Received received receivers
 
--- the logins that failed
-unfoldable pub failures_text : ℕ → List ℕ
-failures_text n = plain_metric (codes "ftp_auth_failures_total") (codes "counter") (codes "Logins that failed.") n
+-- the transfers that have ended
+unfoldable pub transfers_text : (CommandWord → Status7 → ℕ) → List ℕ
+transfers_text ended =
+    metric_head (codes "ftp_transfers_total") (codes "counter") (codes "Transfers that have ended.") ++ ended_text ended movers
 
--- the logins that were locked out
-unfoldable pub locked_text : ℕ → List ℕ
-locked_text n = plain_metric (codes "ftp_locked_logins_total") (codes "counter") (codes "Logins that were locked out.") n
-
--- what the bytes are
-unfoldable pub bytes_head : List ℕ
-bytes_head = metric_head (codes "ftp_bytes_total") (codes "counter") (codes "Bytes that transfers have moved.")
-
--- what the transfers are
-unfoldable pub ended_head : List ℕ
-ended_head = metric_head (codes "ftp_transfers_total") (codes "counter") (codes "Transfers that have ended.")
-
--- the metrics of sessions and of bytes
-unfoldable pub sessions_text : ℕ → ℕ → (CommandWord → ℕ) → (CommandWord → ℕ) → List ℕ
-sessions_text live opened sent received = live_text live ++ opened_text opened ++ bytes_head ++ sent_text sent ++ received_text received
-
--- those of transfers and of logins
-unfoldable pub logins_text : ℕ → ℕ → (CommandWord → Status7 → ℕ) → List ℕ
-logins_text failures locked ended = ended_head ++ ended_text ended ++ failures_text failures ++ locked_text locked
+-- the logins that failed, and those that were locked out
+unfoldable pub logins_text : ℕ → ℕ → List ℕ
+logins_text failures locked =
+    plain_metric (codes "ftp_auth_failures_total") (codes "counter") (codes "Logins that failed.") failures
+    ++ plain_metric (codes "ftp_locked_logins_total") (codes "counter") (codes "Logins that were locked out.") locked
 
 -- the text of all metrics, with each number
 abbrev pub metrics_with : ℕ → ℕ → ℕ → ℕ → (CommandWord → ℕ) → (CommandWord → ℕ) → (CommandWord → Status7 → ℕ) → List ℕ
 metrics_with live opened failures locked sent received ended =
-    sessions_text live opened sent received ++ logins_text failures locked ended
+    sessions_text live opened ++ bytes_text sent received ++ transfers_text ended ++ logins_text failures locked
 
 -- that of counters
 abbrev pub metrics_text : Counters → ℕ → List ℕ

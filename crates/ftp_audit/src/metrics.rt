@@ -1,6 +1,6 @@
 //! The counts of a server in the text format of Prometheus.
 
-ghost use Rattle.std.specs.Prelude.{◌≡◌, ◌++◌, List, OnOk, codes};
+ghost use Rattle.std.specs.Prelude.{◌≡◌, ◌++◌, List, OnOk};
 ghost use Rattle.std.specs.List.{flat_map};
 ghost use Rattle.ftp_options.specs.declared.options.Options.{Options};
 ghost use Rattle.ftp_events.specs.declared.counters.Counters.{Counters};
@@ -8,13 +8,20 @@ ghost use Rattle.ftp_events.specs.declared.entry.Entry.{Entry};
 ghost use Rattle.ftp_events.specs.Counts.{CountsOf};
 ghost use Rattle.ftp_events.specs.Statuses.{word_of};
 ghost use Rattle.ftp_events.specs.Tallies.{of_status, of_word};
-ghost use Rattle.ftp_audit.specs.Metrics.{bytes_head, bytes_sample, ended_head, ended_sample, ended_text, failures_text, label_text, live_text, locked_text, logins_text, metric_head, metrics_of, metrics_text, opened_text, plain_metric, received_text, sample_text, sent_text, sessions_text, status_text, transfers_sample};
+ghost use Rattle.ftp_audit.specs.Metrics.{bytes_sample, bytes_text, direction_bytes, direction_text, ended_sample, ended_text, label_text, logins_text, metric_head, metrics_of, metrics_text, moved_text, plain_metric, sample_text, sessions_text, status_text, transfers_sample, transfers_text};
 
 use crate::form::command_text;
 use ftp_base::{Bytes, DataChanCmd};
 use ftp_events::{CommandWord, Counters, Status7};
 use ftp_text::writing::{put, put_byte, put_number};
 use std::alloc::{AllocError, Global};
+
+// A direction in which transfers move bytes.
+#[derive(Clone, Copy)]
+enum Direction {
+    Sent,
+    Received,
+}
 
 const SENDERS: [CommandWord; 4] = [
     CommandWord::Retr,
@@ -71,112 +78,51 @@ fn put_metrics_of(
 ) -> Result<(), AllocError>
     ensures { OnOk result (out.new.items ≡ out.old.items ++ metrics_text counters.now locked) }
 {
-    put_sessions(out, alloc, counters)?;
-    put_logins(out, alloc, counters, locked)
+    put_sessions(out, counters.session(), counters.sessions_count())?;
+    put_bytes(out, alloc, counters)?;
+    put_transfers(out, alloc, counters)?;
+    put_logins(out, counters.auth_failures(), locked)
 }
 
-// The metrics of sessions and of bytes.
-#[tactic(auto, unfolding(crate::specs::Metrics::sessions_text))]
-fn put_sessions(out: &mut Vec<u8>, alloc: Global, counters: &Counters) -> Result<(), AllocError>
-    ensures { OnOk result (out.new.items ≡ out.old.items ++ sessions_text counters.now.session counters.now.sessions_count (of_word counters.now.sent) (of_word counters.now.received)) }
-{
-    put_live(out, counters.session())?;
-    put_opened(out, counters.sessions_count())?;
-    put_bytes_head(out)?;
-    put_all_sent(out, alloc, counters)?;
-    put_all_received(out, alloc, counters)
-}
-
-// Those of transfers and of logins.
-#[tactic(auto, unfolding(crate::specs::Metrics::logins_text))]
-fn put_logins(
-    out: &mut Vec<u8>,
-    alloc: Global,
-    counters: &Counters,
-    locked: u64,
-) -> Result<(), AllocError>
-    ensures { OnOk result (out.new.items ≡ out.old.items ++ logins_text counters.now.auth_failures locked (λ w s. of_word (of_status counters.now.transferred s) w)) }
-{
-    put_ended_head(out)?;
-    put_all_transfers(out, alloc, counters)?;
-    put_failures(out, counters.auth_failures())?;
-    put_locked(out, locked)
-}
-
-#[tactic(auto, unfolding(crate::specs::Metrics::live_text))]
-fn put_live(out: &mut Vec<u8>, n: u64) -> Result<(), AllocError>
-    ensures { OnOk result (out.new.items ≡ out.old.items ++ live_text n) }
+// The sessions that are live, and those that were opened.
+fn put_sessions(out: &mut Vec<u8>, live: u64, opened: u64) -> Result<(), AllocError>
+    ensures { OnOk result (out.new.items ≡ out.old.items ++ sessions_text live opened) }
 {
     let help = b"Sessions that are live.";
-    put_plain(out, b"ftp_sessions", b"gauge", help, n)
-}
-
-#[tactic(auto, unfolding(crate::specs::Metrics::opened_text))]
-fn put_opened(out: &mut Vec<u8>, n: u64) -> Result<(), AllocError>
-    ensures { OnOk result (out.new.items ≡ out.old.items ++ opened_text n) }
-{
+    put_plain(out, b"ftp_sessions", b"gauge", help, live)?;
     let help = b"Sessions that were opened.";
-    put_plain(out, b"ftp_sessions_total", b"counter", help, n)
+    put_plain(out, b"ftp_sessions_total", b"counter", help, opened)
 }
 
-#[tactic(auto, unfolding(crate::specs::Metrics::failures_text))]
-fn put_failures(out: &mut Vec<u8>, n: u64) -> Result<(), AllocError>
-    ensures { OnOk result (out.new.items ≡ out.old.items ++ failures_text n) }
-{
-    let help = b"Logins that failed.";
-    put_plain(out, b"ftp_auth_failures_total", b"counter", help, n)
-}
-
-#[tactic(auto, unfolding(crate::specs::Metrics::locked_text))]
-fn put_locked(out: &mut Vec<u8>, n: u64) -> Result<(), AllocError>
-    ensures { OnOk result (out.new.items ≡ out.old.items ++ locked_text n) }
-{
-    let help = b"Logins that were locked out.";
-    put_plain(out, b"ftp_locked_logins_total", b"counter", help, n)
-}
-
-#[tactic(auto, unfolding(crate::specs::Metrics::bytes_head))]
-fn put_bytes_head(out: &mut Vec<u8>) -> Result<(), AllocError>
-    ensures { OnOk result (out.new.items ≡ out.old.items ++ bytes_head) }
+// The bytes that transfers have moved.
+#[tactic(auto, unfolding(crate::specs::Metrics::bytes_text))]
+fn put_bytes(out: &mut Vec<u8>, alloc: Global, counters: &Counters) -> Result<(), AllocError>
+    ensures { OnOk result (out.new.items ≡ out.old.items ++ bytes_text (of_word counters.now.sent) (of_word counters.now.received)) }
 {
     let help = b"Bytes that transfers have moved.";
-    put_head(out, b"ftp_bytes_total", b"counter", help)
+    put_head(out, b"ftp_bytes_total", b"counter", help)?;
+    put_moved(out, alloc, counters, Direction::Sent, &SENDERS)?;
+    put_moved(out, alloc, counters, Direction::Received, &RECEIVERS)
 }
 
-#[tactic(auto, unfolding(crate::specs::Metrics::ended_head))]
-fn put_ended_head(out: &mut Vec<u8>) -> Result<(), AllocError>
-    ensures { OnOk result (out.new.items ≡ out.old.items ++ ended_head) }
+// The transfers that have ended.
+fn put_transfers(out: &mut Vec<u8>, alloc: Global, counters: &Counters) -> Result<(), AllocError>
+    ensures { OnOk result (out.new.items ≡ out.old.items ++ transfers_text (λ w s. of_word (of_status counters.now.transferred s) w)) }
 {
     let help = b"Transfers that have ended.";
-    put_head(out, b"ftp_transfers_total", b"counter", help)
+    put_head(out, b"ftp_transfers_total", b"counter", help)?;
+    put_ended(out, alloc, counters, &MOVERS)
 }
 
-// The bytes that each command has sent.
-#[tactic(auto, unfolding(crate::specs::Metrics::sent_text))]
-fn put_all_sent(out: &mut Vec<u8>, alloc: Global, counters: &Counters) -> Result<(), AllocError>
-    ensures { OnOk result (out.new.items ≡ out.old.items ++ sent_text (of_word counters.now.sent)) }
+// The logins that failed, and those that were locked out.
+#[tactic(auto, unfolding(crate::specs::Metrics::logins_text))]
+fn put_logins(out: &mut Vec<u8>, failures: u64, locked: u64) -> Result<(), AllocError>
+    ensures { OnOk result (out.new.items ≡ out.old.items ++ logins_text failures locked) }
 {
-    put_sent(out, alloc, counters, &SENDERS)
-}
-
-// The bytes that each command has received.
-#[tactic(auto, unfolding(crate::specs::Metrics::received_text))]
-fn put_all_received(out: &mut Vec<u8>, alloc: Global, counters: &Counters) -> Result<(), AllocError>
-    ensures { OnOk result (out.new.items ≡ out.old.items ++ received_text (of_word counters.now.received)) }
-{
-    put_received(out, alloc, counters, &RECEIVERS)
-}
-
-// The transfers by each command with each status.
-#[tactic(auto, unfolding(crate::specs::Metrics::ended_text))]
-fn put_all_transfers(
-    out: &mut Vec<u8>,
-    alloc: Global,
-    counters: &Counters,
-) -> Result<(), AllocError>
-    ensures { OnOk result (out.new.items ≡ out.old.items ++ ended_text (λ w s. of_word (of_status counters.now.transferred s) w)) }
-{
-    put_transfers(out, alloc, counters, &MOVERS)
+    let help = b"Logins that failed.";
+    put_plain(out, b"ftp_auth_failures_total", b"counter", help, failures)?;
+    let help = b"Logins that were locked out.";
+    put_plain(out, b"ftp_locked_logins_total", b"counter", help, locked)
 }
 
 // The lines that say what a metric is.
@@ -268,74 +214,55 @@ fn put_sample(
     put_byte(out, b'\n')
 }
 
-// How many bytes a command has sent.
-fn sent_by(alloc: Global, counters: &Counters, word: CommandWord) -> u64
-    ensures { result ≡ of_word counters.now.sent word }
+fn direction_text(direction: Direction) -> &'static [u8]
+    ensures { result.now ≡ direction_text direction }
 {
-    counters.sent_bytes(&command_of(alloc, word))
-}
-
-// The bytes that a command has sent.
-#[tactic(auto, unfolding(crate::specs::Metrics::bytes_sample))]
-fn put_sent_of(
-    out: &mut Vec<u8>,
-    alloc: Global,
-    counters: &Counters,
-    word: CommandWord,
-) -> Result<(), AllocError>
-    ensures { OnOk result (out.new.items ≡ out.old.items ++ bytes_sample (codes "sent") (of_word counters.now.sent) word) }
-{
-    let n = sent_by(alloc, counters, word);
-    put_sample(out, b"ftp_bytes_total", word, b"direction", b"sent", n)
-}
-
-// The bytes that commands have sent.
-fn put_sent(
-    out: &mut Vec<u8>,
-    alloc: Global,
-    counters: &Counters,
-    words: &[CommandWord],
-) -> Result<(), AllocError>
-    ensures { OnOk result (out.new.items ≡ out.old.items ++ flat_map (bytes_sample (codes "sent") (of_word counters.now.sent)) words.now) }
-{
-    for word in words {
-        put_sent_of(out, alloc, counters, *word)?;
+    match direction {
+        Direction::Sent => b"sent",
+        Direction::Received => b"received",
     }
-    Ok(())
 }
 
-// How many bytes a command has received.
-fn received_by(alloc: Global, counters: &Counters, word: CommandWord) -> u64
-    ensures { result ≡ of_word counters.now.received word }
+// How many bytes a command has moved in a direction.
+fn moved_by(alloc: Global, counters: &Counters, direction: Direction, word: CommandWord) -> u64
+    ensures { result ≡ of_word (direction_bytes counters.now direction) word }
 {
-    counters.received_bytes(&command_of(alloc, word))
+    let command = command_of(alloc, word);
+    match direction {
+        Direction::Sent => counters.sent_bytes(&command),
+        Direction::Received => counters.received_bytes(&command),
+    }
 }
 
-// The bytes that a command has received.
+// The bytes that a command has moved in a direction.
 #[tactic(auto, unfolding(crate::specs::Metrics::bytes_sample))]
-fn put_received_of(
+fn put_moved_by(
     out: &mut Vec<u8>,
     alloc: Global,
     counters: &Counters,
+    direction: Direction,
     word: CommandWord,
 ) -> Result<(), AllocError>
-    ensures { OnOk result (out.new.items ≡ out.old.items ++ bytes_sample (codes "received") (of_word counters.now.received) word) }
+    ensures { OnOk result (out.new.items ≡ out.old.items ++ bytes_sample direction (of_word (direction_bytes counters.now direction)) word) }
 {
-    let n = received_by(alloc, counters, word);
-    put_sample(out, b"ftp_bytes_total", word, b"direction", b"received", n)
+    let n = moved_by(alloc, counters, direction, word);
+    let value = direction_text(direction);
+    put_sample(out, b"ftp_bytes_total", word, b"direction", value, n)
 }
 
-// The bytes that commands have received.
-fn put_received(
+// The bytes that commands have moved in a direction.
+#[tactic(auto, unfolding(crate::specs::Metrics::moved_text))]
+fn put_moved(
     out: &mut Vec<u8>,
     alloc: Global,
     counters: &Counters,
+    direction: Direction,
     words: &[CommandWord],
 ) -> Result<(), AllocError>
-    ensures { OnOk result (out.new.items ≡ out.old.items ++ flat_map (bytes_sample (codes "received") (of_word counters.now.received)) words.now) }
+    ensures { OnOk result (out.new.items ≡ out.old.items ++ moved_text direction (of_word (direction_bytes counters.now direction)) words.now) }
 {
     for word in words {
-        put_received_of(out, alloc, counters, *word)?;
+        put_moved_by(out, alloc, counters, direction, *word)?;
     }
     Ok(())
 }
@@ -407,13 +334,14 @@ fn put_ended_of(
 }
 
 // The transfers by each of these commands.
-fn put_transfers(
+#[tactic(auto, unfolding(crate::specs::Metrics::ended_text))]
+fn put_ended(
     out: &mut Vec<u8>,
     alloc: Global,
     counters: &Counters,
     words: &[CommandWord],
 ) -> Result<(), AllocError>
-    ensures { OnOk result (out.new.items ≡ out.old.items ++ flat_map (ended_sample (λ w s. of_word (of_status counters.now.transferred s) w)) words.now) }
+    ensures { OnOk result (out.new.items ≡ out.old.items ++ ended_text (λ w s. of_word (of_status counters.now.transferred s) w) words.now) }
 {
     for word in words {
         put_ended_of(out, alloc, counters, *word)?;
