@@ -156,20 +156,8 @@ fn an_answer_that_decides_nothing_is_right(rt: HostRuntime) -> Result<(), Fail> 
     Ok(())
 }
 
-// Three sessions of a client log in and ask for a port each, of which there are two.
-const THREE: &str = "options pooled 50000 50001 connection passive 600 off restart
-> 0 connect 1 10.0.0.1:4000 10.0.0.9:21 1
-= opened
-> 0 user 1 ann
-= needpass
-- reply 1 0 331 Password Required
-> 0 pass 1
-= passout
-> 0 auth 1 good
-= loggedin
-- notify 1 1 0x1 login 0 3 0 ann
-- reply 1 0 230 User logged in, proceed
-> 0 connect 2 10.0.0.1:4000 10.0.0.9:21 2
+// Two more sessions of the client log in, and each of the three asks for a port, of which there are two.
+const TWO_MORE: &str = "> 0 connect 2 10.0.0.1:4000 10.0.0.9:21 2
 = opened
 > 0 user 2 ann
 = needpass
@@ -211,7 +199,9 @@ fn an_entry_is_explained_or_there_is_none(rt: HostRuntime) -> Result<(), Fail> {
         ("why 18446744073709551616", "", CheckStatus::NoEntry, ""),
         ("why 0", CONNECT, CheckStatus::BadText(44), ""),
     ] {
-        let parts = [THREE, last];
+        let parts = [
+            POOLED, CONNECT, OPENED, USER, NEED_PASS, PASSWORD, LOGIN, TWO_MORE, last,
+        ];
         expect(&rt, rt.alloc(), command, &parts, 100, status, line)?;
     }
     Ok(())
