@@ -119,26 +119,23 @@ goes-on s u t old new before lines holds hub keeps log e shape =
     })
 
 -- the options make the hub anew
-pub takes-options : (old new : Checker) (i : Item) →
-    settings_of (options_of new.hub) ≡ settings_in (Some i) →
-    Stands new.hub [] →
-    count_of new.hub ≡ 0 →
-    new.due ≡ old.due →
-    new.keeps ≡ old.keeps →
-    new.log ≡ old.log →
-    Takes (says.Options i) None old new
-takes-options old new i set stands count due keeps log s t lines fits e holds = at s e holds where
-  at : (s : Stage) → stage_after s (says.Options i) ≡ Some t → Holds s old lines → Holds t new (lines ++ says.Options i ∷ [])
+pub takes-options : (old : Checker) (i : Item) (hub : Hub) →
+    settings_of (options_of hub) ≡ settings_in (Some i) →
+    Stands hub [] →
+    count_of hub ≡ 0 →
+    Takes (says.Options i) None old (record old { hub = hub })
+takes-options old i hub set stands count s t lines fits e holds = at s e holds where
+  at : (s : Stage) → stage_after s (says.Options i) ≡ Some t → Holds s old lines → Holds t (record old { hub = hub }) (lines ++ says.Options i ∷ [])
   at stage.Start e holds =
-      subst (λ (u : Stage). Holds u new (lines ++ says.Options i ∷ [])) (some_is stage.Opened t e)
+      subst (λ (u : Stage). Holds u (record old { hub = hub }) (lines ++ says.Options i ∷ [])) (some_is stage.Opened t e)
       (record {
         line = Some i;
         log = [];
         set = set;
         stands = stands;
         count = count;
-        shape = (refl, due ∙ holds.shape.2, ap (λ (l : List LogLine). l ++ says.Options i ∷ []) holds.shape.3);
-        kept = λ on. kept-same old new holds.log keeps log holds.kept on ∙ holds.shape.1;
+        shape = (refl, holds.shape.2, ap (λ (l : List LogLine). l ++ says.Options i ∷ []) holds.shape.3);
+        kept = λ on. holds.kept on ∙ holds.shape.1;
       })
   at stage.Opened e holds = absurd cc
   at stage.Happened e holds = absurd cc
@@ -182,28 +179,19 @@ takes-event old new d came hub event none due keeps log s t lines fits e holds =
   at stage.Decided e holds = opens stage.Decided refl e holds
 
 -- an answer is kept
-pub takes-answer : (old new : Checker) (a : Answer) →
-    new.hub ≡ old.hub →
-    new.event ≡ old.event →
-    new.answer ≡ a →
-    new.due ≡ old.due →
-    new.keeps ≡ old.keeps →
-    new.log ≡ old.log →
-    Takes (says.Answer a) None old new
-takes-answer old new a hub event same due keeps log s t lines fits e holds = at s e holds where
-  at : (s : Stage) → stage_after s (says.Answer a) ≡ Some t → Holds s old lines → Holds t new (lines ++ says.Answer a ∷ [])
+pub takes-answer : (old : Checker) (a : Answer) → Takes (says.Answer a) None old (record old { answer = a })
+takes-answer old a s t lines fits e holds = at s e holds where
+  at : (s : Stage) → stage_after s (says.Answer a) ≡ Some t → Holds s old lines → Holds t (record old { answer = a }) (lines ++ says.Answer a ∷ [])
   at stage.Start e holds = absurd cc
   at stage.Opened e holds = absurd cc
   at stage.Happened e holds =
-      let lines_are = lines_of holds.line (reverse holds.log) in
-      goes-on stage.Happened stage.Answered t old new lines (lines ++ says.Answer a ∷ []) holds hub keeps log e (
+      goes-on stage.Happened stage.Answered t old (record old { answer = a }) lines (lines ++ says.Answer a ∷ []) holds refl refl refl e (
         holds.shape.0,
-        event ∙ holds.shape.1,
-        subst IsAnswer (sym same) fits,
-        due ∙ holds.shape.3,
+        holds.shape.1,
+        fits,
+        holds.shape.3,
         ap (λ (l : List LogLine). l ++ says.Answer a ∷ []) holds.shape.4
-            ∙ append_assoc lines_are (says.Event holds.shape.0 ∷ []) (says.Answer a ∷ [])
-            ∙ ap (λ (x : Answer). lines_are ++ says.Event holds.shape.0 ∷ says.Answer x ∷ []) (sym same),
+            ∙ append_assoc (lines_of holds.line (reverse holds.log)) (says.Event holds.shape.0 ∷ []) (says.Answer a ∷ []),
       )
   at stage.Answered e holds = absurd cc
   at stage.Decided e holds = absurd cc
@@ -350,16 +338,9 @@ pub told-count : (x : LogLine) (n : ℕ) (due : Decision) (old new : Checker) �
 told-count x n due old new count takes = subst (λ (m : ℕ). Takes x (Some (verdict.Decided m due)) old new) (sym count) takes
 
 -- an action came that is due
-pub takes-action : (old new : Checker) (a : Action) →
-    slice_get old.due old.came ≡ Some a →
-    new.hub ≡ old.hub →
-    new.due ≡ old.due →
-    new.came ≡ old.came + 1 →
-    new.keeps ≡ old.keeps →
-    new.log ≡ old.log →
-    Takes (says.Action a) None old new
-takes-action old new a found hub due came keeps log s t lines fits e holds = at s e holds where
-  at : (s : Stage) → stage_after s (says.Action a) ≡ Some t → Holds s old lines → Holds t new (lines ++ says.Action a ∷ [])
+pub takes-action : (old : Checker) (a : Action) (came : ℕ) → slice_get old.due old.came ≡ Some a → came ≡ old.came + 1 → Takes (says.Action a) None old (record old { came = came })
+takes-action old a came found next s t lines fits e holds = at s e holds where
+  at : (s : Stage) → stage_after s (says.Action a) ≡ Some t → Holds s old lines → Holds t (record old { came = came }) (lines ++ says.Action a ∷ [])
   at stage.Start e holds = absurd cc
   at stage.Opened e holds = absurd cc
   at stage.Happened e holds = absurd cc
@@ -368,16 +349,16 @@ takes-action old new a found hub due came keeps log s t lines fits e holds = at 
       let older = holds.shape.0 in
       let last = holds.shape.1 in
       let one = take-one old.due old.came a found in
-      goes-on stage.Decided stage.Decided t old new lines (lines ++ says.Action a ∷ []) holds hub keeps log e (
+      goes-on stage.Decided stage.Decided t old (record old { came = came }) lines (lines ++ says.Action a ∷ []) holds refl refl refl e (
         older,
         last,
         holds.shape.2,
-        due ∙ holds.shape.3,
-        omega (arith, came, one.1, ap length due),
+        holds.shape.3,
+        omega (arith, next, one.1),
         ap (λ (l : List LogLine). l ++ says.Action a ∷ []) holds.shape.5
             ∙ so_far-more holds.line older last (take old.came old.due) (a ∷ [])
             ∙ ap (λ (l : List Action). so_far holds.line older last l) (sym one.0)
-            ∙ (λ i. so_far holds.line older last (take (sym came i) (sym due i))),
+            ∙ ap (λ (n : ℕ). so_far holds.line older last (take n old.due)) (sym next),
       )
 
 -- where the last entry has other actions

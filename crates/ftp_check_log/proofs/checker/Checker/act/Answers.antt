@@ -1,4 +1,4 @@
-use Rattle.std.proofs.Common.{Some, refl, sym, subst}
+use Rattle.std.proofs.Common.{Some, sym, subst}
 use Rattle.ftp_text.specs.declared.line.LogLine.TheVariants as says
 use Rattle.ftp_check_log.specs.declared.verdict.Verdict.{Verdict}
 use Rattle.ftp_check_log.specs.Checks.{Takes}
@@ -7,8 +7,7 @@ use Rattle.ftp_check_log.proofs.checker.Checker.act.Goals as goal
 
 pub returns-in-Some-clause-acted : goal.returns-in-Some-clause-acted
 returns-in-Some-clause-acted c =
-    let it = c.args.self.now in
-    takes-action it (record it { came = c.in-Some.came }) c.args.action.now c.in-Some.ensures.0 refl refl c.in-Some.ensures.1 refl refl
+    takes-action c.args.self.now c.args.action.now c.in-Some.came c.in-Some.ensures.0 c.in-Some.ensures.1
 
 pub returns-in-None-clause-acted : goal.returns-in-None-clause-acted
 returns-in-None-clause-acted c =

@@ -1,5 +1,5 @@
 use Rattle.std.specs.Prelude.{IfOk}
-use Rattle.std.proofs.Common.{None, refl, sym, subst}
+use Rattle.std.proofs.Common.{None, sym, subst}
 use Rattle.ftp_text.specs.declared.line.LogLine.{LogLine}
 use Rattle.ftp_check_log.specs.Checks.{Takes}
 use Rattle.ftp_check_log.proofs.CheckLemmas.{takes-answer}
@@ -14,7 +14,7 @@ returns-in-Event-clause-taken c = subst (λ (x : LogLine). Takes x c.happen.resu
 pub returns-in-Answer-clause-taken : goal.returns-in-Answer-clause-taken
 returns-in-Answer-clause-taken c =
     let new = record c.args.self.now { answer = c.in-Answer.answer } in
-    subst (λ (x : LogLine). Takes x None c.args.self.now new) (sym c.in-Answer.is) (takes-answer c.args.self.now new c.in-Answer.answer refl refl refl refl refl refl)
+    subst (λ (x : LogLine). Takes x None c.args.self.now new) (sym c.in-Answer.is) (takes-answer c.args.self.now c.in-Answer.answer)
 
 pub returns-in-Decision-clause-taken : goal.returns-in-Decision-clause-taken
 returns-in-Decision-clause-taken c =
