@@ -1,11 +1,9 @@
 //! What stands before the script of a resumed run: an options line or none, the text of a state, and a line of two hyphens.
 
-ghost use Rattle.std.specs.Prelude.{◌≡◌, true, false, ◌+◌, ◌^◌, ◌<◌, ◌≤◌, ◌++◌, ◌∷◌, [], length, option_to_list, IfErr, OnOk};
-ghost use Rattle.ftp_script_run.specs.declared.text_script.ScriptError.{ScriptError};
+ghost use Rattle.std.specs.Prelude.{◌≡◌, true, false, ◌+◌, ◌^◌, ◌<◌, ◌≤◌, ◌++◌, ◌∷◌, [], length, option_to_list, OnOk};
 
-use crate::text_script::ScriptError;
 use ftp_text::Item;
-use std::alloc::Global;
+use std::alloc::{AllocError, Global};
 
 /// What stands before a script.
 #[derive(Drop)]
@@ -39,12 +37,11 @@ impl Head {
     }
 
     /// Adds a line of the state.
-    pub fn add(&mut self, line: &[u8]) -> Result<(), ScriptError>
+    pub fn add(&mut self, line: &[u8]) -> Result<(), AllocError>
         ensures text { OnOk result (self.new.text.items ≡ self.old.text.items ++ (line.now ++ 10 ∷ [])) }
         ensures lines { OnOk result (self.new.lines ≡ self.old.lines + 1) }
         ensures options { OnOk result (self.new.options ≡ self.old.options) }
         ensures open { OnOk result (self.new.is_closed ≡ self.old.is_closed) }
-        ensures only_memory { IfErr result (λ e. e ≡ ScriptError.Memory) }
         ensures longer { OnOk result ((length self.old.text.items < length self.new.text.items) × (length self.new.text.items < 2 ^ 63)) }
     {
         self.text.extend_from_slice(line)?;

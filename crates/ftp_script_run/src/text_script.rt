@@ -13,7 +13,7 @@ use ftp_audit::Quota;
 use ftp_base::{MemoryStorage, Source};
 use ftp_control::{NextLineError, Span, next_line};
 use ftp_text::{Item, LineFault};
-use std::alloc::{AllocError, AllocFailed, Global};
+use std::alloc::{AllocError, Global};
 
 /// How many bytes the buffer of a reader has: any line fits with its line feed.
 pub const BUFFER_SIZE: usize = LONGEST_LINE + 1;
@@ -35,17 +35,6 @@ impl From<AllocError> for ScriptError {
     ghost from_gives = { λ _ e. e ≡ Memory };
 
     fn from(_error: AllocError) -> ScriptError {
-        ScriptError::Memory
-    }
-}
-
-impl<T: Drop> From<AllocFailed<T>> for ScriptError {
-    ghost use Rattle.std.specs.Prelude.{◌≡◌};
-    ghost use Rattle.ftp_script_run.specs.declared.text_script.ScriptError.TheVariants.{Memory};
-
-    ghost from_gives = { λ _ e. e ≡ Memory };
-
-    fn from(_error: AllocFailed<T>) -> ScriptError {
         ScriptError::Memory
     }
 }
