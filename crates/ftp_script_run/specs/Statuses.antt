@@ -1,5 +1,5 @@
 -- How a run ends.
-use Rattle.std.specs.Prelude.{◌≡◌, ℕ, ◌⊎◌, Result, Ok, Err}
+use Rattle.std.specs.Prelude.{◌≡◌, ◌≢◌, ℕ, ◌≤◌, ◌⊎◌, Option, Some, Result, Ok, Err}
 use Rattle.ftp_base.specs.Outside.{HasRisen}
 use Rattle.ftp_base.specs.declared.fault.Failed.{Failed}
 use Rattle.ftp_base.specs.declared.fault.Failed.TheVariants.{Fault, Memory}
@@ -22,6 +22,15 @@ IsCutShort s = (s ≡ status.WriteFault) ⊎ (s ≡ status.OutOfMemory)
 -- no fault was counted
 abbrev pub HasNotRisen : ℕ → ℕ → Type 0
 HasNotRisen old new = HasRisen old new → ⊥
+
+-- a run that goes on, or ends with this status, tells a fault of its source or of its sink only where it was counted, and no count
+-- falls
+pub record TellsFaults (ended : Option Status) (source_old source_new sink_old sink_new : ℕ) : Type 0 where
+  pub no_usage : ended ≢ Some status.Usage
+  pub read_fault : ended ≡ Some status.ReadFault → HasRisen source_old source_new
+  pub write_fault : ended ≡ Some status.WriteFault → HasRisen sink_old sink_new
+  pub source_count : source_old ≤ source_new
+  pub sink_count : sink_old ≤ sink_new
 
 -- the status where a write failed
 abbrev pub stopped_by : Failed → Status

@@ -1,6 +1,6 @@
 //! A whole script: bytes in, and out what its users moved.
 
-ghost use Rattle.std.specs.Prelude.{◌≡◌, ◌≢◌, ℕ, ◌≤◌, ◌<◌, ◌∷◌, ◌++◌, [], true, List, Option, Some, None, IfSome, IfNone, OnOk, OnErr, IsErrOf, length};
+ghost use Rattle.std.specs.Prelude.{◌≡◌, ℕ, ◌≤◌, ◌<◌, ◌∷◌, ◌++◌, [], true, List, Option, Some, None, IfSome, IfNone, OnOk, OnErr, IsErrOf, length};
 ghost use Rattle.ftp_base.specs.Outside.{HasRisen};
 ghost use Rattle.ftp_base.specs.declared.fault.Failed.TheVariants.{Fault};
 ghost use Rattle.ftp_options.specs.declared.options.Options.{Options};
@@ -8,6 +8,7 @@ ghost use Rattle.ftp_events.specs.declared.entry.Entry.{Entry};
 ghost use Rattle.ftp_text.specs.declared.setup.Item.{Item};
 ghost use Rattle.ftp_script_run.specs.Script.{may_stand};
 ghost use Rattle.ftp_script_run.specs.ScriptReader.{IsLawful};
+ghost use Rattle.ftp_script_run.specs.Statuses.{TellsFaults};
 ghost use Rattle.ftp_audit.specs.Heard.{HasHeard, Stands};
 ghost use Rattle.ftp_script_run.specs.Outcome.{bad_line};
 ghost use Rattle.ftp_script_run.specs.Runs.{Keeps, MayTake};
@@ -32,11 +33,7 @@ pub fn audit_lines<S: Source, K: Sink>(
     requires { length buffer.old ≡ 65537 }
     ensures outcome { IfSome (S.left source.old) (λ bytes.
         AuditOutcome result (HasRisen (S.faults source.old) (S.faults source.new)) bytes (S.left source.new) (K.written sink.old) (K.written sink.new)) }
-    ensures no_usage { result ≢ Status.Usage }
-    ensures read_fault { result ≡ Status.ReadFault → HasRisen (S.faults source.old) (S.faults source.new) }
-    ensures write_fault { result ≡ Status.WriteFault → HasRisen (K.faults sink.old) (K.faults sink.new) }
-    ensures source_count { S.faults source.old ≤ S.faults source.new }
-    ensures sink_count { K.faults sink.old ≤ K.faults sink.new }
+    ensures faults { TellsFaults (Some result) (S.faults source.old) (S.faults source.new) (K.faults sink.old) (K.faults sink.new) }
 {
     let mut reader = ScriptReader::new(alloc);
     let mut run = Run::new(alloc);
@@ -73,11 +70,7 @@ fn hear<S: Source, K: Sink>(
     ensures quiet { IfNone result (sink.new ≡ sink.old) }
     ensures ended { IfSome result (λ status. (all : Option (List ℕ)) → Hearing all reader.old run.old audit.old buffer.old (S.left source.old) →
         IfSome all (λ bytes. AuditOutcome status (HasRisen (S.faults source.old) (S.faults source.new)) bytes (S.left source.new) (K.written sink.old) (K.written sink.new))) }
-    ensures no_usage { result ≢ Some Status.Usage }
-    ensures read_fault { result ≡ Some Status.ReadFault → HasRisen (S.faults source.old) (S.faults source.new) }
-    ensures write_fault { result ≡ Some Status.WriteFault → HasRisen (K.faults sink.old) (K.faults sink.new) }
-    ensures source_count { S.faults source.old ≤ S.faults source.new }
-    ensures sink_count { K.faults sink.old ≤ K.faults sink.new }
+    ensures faults { TellsFaults result (S.faults source.old) (S.faults source.new) (K.faults sink.old) (K.faults sink.new) }
     ensures lawful { IfNone result (IsLawful reader.new buffer.new) }
     ensures moved { IfNone result (reader.old.taken < reader.new.taken) }
 {

@@ -22,6 +22,7 @@ ghost use Rattle.ftp_script_run.specs.Legal.{start_of};
 ghost use Rattle.ftp_script_run.specs.Runs.{Keeps, outside};
 ghost use Rattle.ftp_script_run.specs.SetUp.{is_event};
 ghost use Rattle.ftp_script_run.specs.ScriptReader.{IsLawful};
+ghost use Rattle.ftp_script_run.specs.Statuses.{TellsFaults};
 
 use crate::head::Head;
 use crate::resumed::Resumed;
@@ -44,11 +45,7 @@ pub fn resume_lines<S: Source, K: Sink>(
 ) -> Status
     requires { length buffer.old ≡ 65537 }
     ensures outcome { IfSome (S.left source.old) (λ bytes. ResumeOutcome result bytes (S.left source.new) (K.written sink.old) (K.written sink.new)) }
-    ensures no_usage { result ≢ Status.Usage }
-    ensures read_fault { result ≡ Status.ReadFault → HasRisen (S.faults source.old) (S.faults source.new) }
-    ensures write_fault { result ≡ Status.WriteFault → HasRisen (K.faults sink.old) (K.faults sink.new) }
-    ensures source_count { S.faults source.old ≤ S.faults source.new }
-    ensures sink_count { K.faults sink.old ≤ K.faults sink.new }
+    ensures faults { TellsFaults (Some result) (S.faults source.old) (S.faults source.new) (K.faults sink.old) (K.faults sink.new) }
 {
     let mut held = Span { start: 0, end: 0 };
     let mut run = Run::new(alloc);
@@ -259,11 +256,7 @@ fn go_on<S: Source, K: Sink>(
         Resuming all resumed.new reader.new run.new buffer.new (S.left source.new) old (K.written sink.new)) }
     ensures ended { IfSome result (λ status. (all old : Option (List ℕ)) → Resuming all resumed.old reader.old run.old buffer.old (S.left source.old) old (K.written sink.old) →
         IfSome all (λ bytes. ResumeOutcome status bytes (S.left source.new) old (K.written sink.new))) }
-    ensures no_usage { result ≢ Some Status.Usage }
-    ensures read_fault { result ≡ Some Status.ReadFault → HasRisen (S.faults source.old) (S.faults source.new) }
-    ensures write_fault { result ≡ Some Status.WriteFault → HasRisen (K.faults sink.old) (K.faults sink.new) }
-    ensures source_count { S.faults source.old ≤ S.faults source.new }
-    ensures sink_count { K.faults sink.old ≤ K.faults sink.new }
+    ensures faults { TellsFaults result (S.faults source.old) (S.faults source.new) (K.faults sink.old) (K.faults sink.new) }
     ensures lawful { IfNone result (IsLawful reader.new buffer.new) }
     ensures moved { IfNone result (reader.old.taken < reader.new.taken) }
 {

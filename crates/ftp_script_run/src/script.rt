@@ -7,7 +7,7 @@ ghost use Rattle.ftp_events.specs.declared.entry.Entry.{Entry};
 ghost use Rattle.ftp_text.specs.declared.setup.Item.{Item};
 ghost use Rattle.ftp_script_run.specs.Script.{IsScriptOf};
 ghost use Rattle.ftp_script_run.specs.ScriptReader.{IsLawful};
-ghost use Rattle.ftp_script_run.specs.Statuses.{IsCutShort, HasNotRisen};
+ghost use Rattle.ftp_script_run.specs.Statuses.{IsCutShort, HasNotRisen, TellsFaults};
 ghost use Rattle.ftp_script_run.specs.declared.command.Command.{Command};
 ghost use Rattle.ftp_script_run.specs.declared.command.Command.TheVariants as command;
 ghost use Rattle.ftp_script_run.specs.declared.command.Command.TheVariants.{Audit, Resume, Tell};
@@ -199,11 +199,7 @@ fn run_lines<S: Source, K: Sink>(
 ) -> Status
     requires { length buffer.old ≡ 65537 }
     ensures outcome { IfSome (S.left source.old) (λ bytes. Outcome ending result bytes (S.left source.new) (K.written sink.old) (K.written sink.new)) }
-    ensures no_usage { result ≢ Status.Usage }
-    ensures read_fault { result ≡ Status.ReadFault → HasRisen (S.faults source.old) (S.faults source.new) }
-    ensures write_fault { result ≡ Status.WriteFault → HasRisen (K.faults sink.old) (K.faults sink.new) }
-    ensures source_count { S.faults source.old ≤ S.faults source.new }
-    ensures sink_count { K.faults sink.old ≤ K.faults sink.new }
+    ensures faults { TellsFaults (Some result) (S.faults source.old) (S.faults source.new) (K.faults sink.old) (K.faults sink.new) }
 {
     let mut reader = ScriptReader::new(alloc);
     let mut run = Run::new(alloc);
@@ -230,11 +226,7 @@ fn advance<S: Source, K: Sink>(
         Running None all reader.new run.new buffer.new (S.left source.new) before (K.written sink.new)) }
     ensures ended { IfSome result (λ status. (all before : Option (List ℕ)) → Running None all reader.old run.old buffer.old (S.left source.old) before (K.written sink.old) →
         IfSome all (λ bytes. Outcome ending status bytes (S.left source.new) before (K.written sink.new))) }
-    ensures no_usage { result ≢ Some Status.Usage }
-    ensures read_fault { result ≡ Some Status.ReadFault → HasRisen (S.faults source.old) (S.faults source.new) }
-    ensures write_fault { result ≡ Some Status.WriteFault → HasRisen (K.faults sink.old) (K.faults sink.new) }
-    ensures source_count { S.faults source.old ≤ S.faults source.new }
-    ensures sink_count { K.faults sink.old ≤ K.faults sink.new }
+    ensures faults { TellsFaults result (S.faults source.old) (S.faults source.new) (K.faults sink.old) (K.faults sink.new) }
     ensures lawful { IfNone result (IsLawful reader.new buffer.new) }
     ensures moved { IfNone result (reader.old.taken < reader.new.taken) }
 {

@@ -1,6 +1,8 @@
 use Rattle.std.proofs.Common.{◌∙◌, ap, arith}
 use Rattle.std.specs.Prelude.{Err}
+use Rattle.std.proofs.lemmas.Option.{same_Some}
 use Rattle.ftp_control.specs.Lines.{bytes_in}
+use Rattle.ftp_script_run.specs.declared.status.Status.TheVariants as status
 use Rattle.ftp_script_run.proofs.GoOnLemmas.{go-start, refused-outcome}
 use Rattle.ftp_script_run.proofs.resuming.resume_lines.Goals as goal
 
@@ -11,8 +13,14 @@ returns-in-Err-clause-outcome g c =
     (λ k e. c.begin.ensures.bad k (c.in-Err.is ∙ ap Err e))
     c.ended.ensures.named
 
-pub returns-in-Err-clause-read_fault : goal.returns-in-Err-clause-read_fault
-returns-in-Err-clause-read_fault g c = λ is. c.begin.ensures.fault_rose (c.in-Err.is ∙ ap Err (c.ended.ensures.read_fault is))
+pub returns-in-Err-clause-faults : goal.returns-in-Err-clause-faults
+returns-in-Err-clause-faults g c = record {
+  no_usage = λ is. c.ended.ensures.no_usage (same_Some c.ended.result status.Usage is);
+  read_fault = λ is. c.begin.ensures.fault_rose (c.in-Err.is ∙ ap Err (c.ended.ensures.read_fault (same_Some c.ended.result status.ReadFault is)));
+  write_fault = λ is. c.ended.ensures.write_fault (same_Some c.ended.result status.WriteFault is);
+  source_count = c.begin.ensures.count;
+  sink_count = c.ended.ensures.sink_count;
+}
 
 pub loop-status-init : goal.loop-status-init
 loop-status-init g c = record {
