@@ -17,11 +17,12 @@ use Rattle.ftp_text.specs.LogLines.{log_line, IsLogLine}
 use Rattle.ftp_text.specs.LogText.{says_of, opening, lines_of, text_of, IsLog, IsFront, ComesNext, IsFirstBad}
 use Rattle.ftp_text.specs.Settings.{settings_in}
 use Rattle.ftp_text.proofs.PrintedLemmas.{first-is, one_bad, text-cons}
+use Rattle.ftp_text.proofs.SettingsLemmas.{options-once}
 use Rattle.ftp_check_log.specs.declared.verdict.Verdict.{Verdict}
 use Rattle.ftp_check_log.specs.declared.verdict.Verdict.TheVariants as verdict
 use Rattle.ftp_check_log.specs.Verdicts.{IsDueLog, AreLinesOf, head_of, HasOtherDecision, Strays, GoesAstray, HasOtherActions, HasBadText, TellsOfText, IsOnlyVerdict}
 use Rattle.ftp_check_log.proofs.CheckLemmas.{lines_of-newest}
-use Rattle.ftp_check_log.proofs.OnlyLemmas.{same-options, AreNext, are-next, SameOpening, right-only}
+use Rattle.ftp_check_log.proofs.OnlyLemmas.{AreNext, are-next, SameOpening, right-only}
 use Rattle.ftp_check_log.proofs.PartLemmas.{GoesOnAs, goes-on-as, no-text, NoAction, IsWhole, Part, together, first_on, second_on, part, whole-part, same-start-half, same-start}
 
 -- ---- where lines are not as they are due
@@ -164,7 +165,7 @@ two-halts n m a b d e lines others rest behind h k on =
     ∙ k.parts
     ∙ append_assoc (opening k.line) (flat_map says_of (reverse k.log)) (head_of b ++ says.Decision e ∷ k.last) in
     let start = same-start h.line k.line (reverse h.log) (reverse k.log) a b (says.Decision d ∷ (h.last ++ on.more)) (says.Decision e ∷ k.last) whole in
-    let options : h.due.options ≡ k.due.options = same-options h.due.options k.due.options (h.due.set ∙ ap settings_in start.line ∙ sym k.due.set) in
+    let options : h.due.options ≡ k.due.options = options-once h.due.options k.due.options (h.due.set ∙ ap settings_in start.line ∙ sym k.due.set) in
     let mine : AreNext k.due.options [] (reverse h.log ++ a ∷ []) = subst (λ (o : Options). AreNext o [] (reverse h.log ++ a ∷ [])) options (due-next h.line h.log a h.due) in
     at (part k.due.options [] (reverse h.log) (reverse k.log) a b d e (h.last ++ on.more) k.last mine (due-next k.line k.log b k.due) start.rest) where
       at : Part (length (reverse h.log)) (length (reverse k.log)) a b d e (h.last ++ on.more) k.last → SameHalt n m a b d e
@@ -310,7 +311,7 @@ bad-behind k n a d before lines rest behind bad h on = elim h.never [
       ∙ append_assoc (opening bad.due.line) (flat_map says_of (reverse bad.due.log)) bad.due.undecided)
 
   options : h.due.options ≡ bad.due.due.options
-  options = same-options h.due.options bad.due.due.options (h.due.set ∙ ap settings_in start.line ∙ sym bad.due.due.set)
+  options = options-once h.due.options bad.due.due.options (h.due.set ∙ ap settings_in start.line ∙ sym bad.due.due.set)
 
   whole : IsWhole a d (h.last ++ (on.more ++ missing))
   whole =

@@ -1,13 +1,9 @@
 -- A text that is the print of a right and acted log has no other verdict.
-use Rattle.std.proofs.Common.{◌≡◌, ℕ, ◌+◌, ◌≤◌, false, List, [], ◌∷◌, ◌++◌, length, map, reverse, Option, Some, None, refl, sym, ap, subst, ◌∙◌, append_assoc, arith}
-use Rattle.std.specs.Coded.{le_prop}
+use Rattle.std.proofs.Common.{◌≡◌, ℕ, ◌+◌, List, [], ◌∷◌, ◌++◌, length, map, reverse, Option, Some, None, refl, sym, ap, subst, ◌∙◌, append_assoc, arith}
 use Rattle.std.specs.List.{flat_map}
 use Rattle.std.specs.Prelude.{Result, Ok, Err, IfOk}
 use Rattle.std.proofs.lemmas.List.{append-nil, append_cancel_left, length-append, length-reverse, map-append, reverse-append, reverse-reverse}
 use Rattle.ftp_options.specs.declared.options.Options.{Options}
-use Rattle.ftp_options.specs.Builder.{settings_of}
-use Rattle.ftp_options.specs.Modes.{is_legacy}
-use Rattle.ftp_options.specs.Settings.{Settings}
 use Rattle.ftp_events.specs.declared.action.Action.{Action}
 use Rattle.ftp_events.specs.declared.decision.Decision.{Decision}
 use Rattle.ftp_events.specs.declared.entry.Entry.{Entry}
@@ -23,38 +19,11 @@ use Rattle.ftp_text.specs.LogLines.{log_line}
 use Rattle.ftp_text.specs.LogText.{answers, says_of, opening, lines_of, text_of, IsPrintOf}
 use Rattle.ftp_text.specs.Settings.{settings_in}
 use Rattle.ftp_text.proofs.PlaceLemmas.{lines-text}
+use Rattle.ftp_text.proofs.SettingsLemmas.{options-once}
 use Rattle.ftp_text.proofs.PrintedLemmas.{printed_good, goes-on, text-cons}
 use Rattle.ftp_check_log.specs.declared.verdict.Verdict.{Verdict}
 use Rattle.ftp_check_log.specs.declared.verdict.Verdict.TheVariants as verdict
 use Rattle.ftp_check_log.specs.Verdicts.{IsDueLog, IsRightText, AreLinesOf, head_of, GoesAstray, TellsOfText}
-
--- ---- options
-
--- options with these settings
-made : (s : Settings) → s.lo ≤ s.hi → (is_legacy s.mode ≡ false → 1 ≤ s.lo) → Options
-made s ordered listens = record {
-  mode = s.mode;
-  lo = s.lo;
-  hi = s.hi;
-  host = s.host;
-  active_passive = s.active_passive;
-  idle_ms = s.idle_ms;
-  lockout = s.lockout;
-  features = s.features;
-  site_md5 = s.site_md5;
-  tls_flags = s.tls_flags;
-  collect_metrics = s.collect_metrics;
-  greeting = s.greeting;
-  ordered = ordered;
-  listens = listens;
-}
-
--- options with the same settings are the same
-pub same-options : (a b : Options) → settings_of a ≡ settings_of b → a ≡ b
-unfolding made
-same-options a b e = subst (λ (s : Settings). (x : s.lo ≤ s.hi) (y : is_legacy s.mode ≡ false → 1 ≤ s.lo) → a ≡ made s x y) e same b.ordered b.listens where
-  same : (x : a.lo ≤ a.hi) (y : is_legacy a.mode ≡ false → 1 ≤ a.lo) → a ≡ made (settings_of a) x y
-  same x y = λ k. made (settings_of a) (le_prop a.ordered x k) (λ shared. le_prop (a.listens shared) (y shared) k)
 
 -- ---- what is due, from the oldest entry on
 
@@ -225,7 +194,7 @@ goes-right n bytes rest lines line log next d u right are due parts =
     ∙ append_assoc (opening line) (flat_map says_of (reverse log)) ((head_of next ++ says.Decision d ∷ u) ++ on.more)
     ∙ ap (λ (l : List LogLine). opening line ++ (flat_map says_of (reverse log) ++ l)) (append_assoc (head_of next) (says.Decision d ∷ u) on.more)) in
     let open_is = same-opening line right.line (reverse log) all next (says.Decision d ∷ (u ++ on.more)) whole in
-    let options : due.options ≡ right.due.options = same-options due.options right.due.options (due.set ∙ ap settings_in open_is.line ∙ sym right.due.set) in
+    let options : due.options ≡ right.due.options = options-once due.options right.due.options (due.set ∙ ap settings_in open_is.line ∙ sym right.due.set) in
     let mine : AreNext right.due.options [] (reverse log ++ next ∷ []) =
     subst (λ (o : Options). AreNext o [] (reverse log ++ next ∷ [])) options
     (subst (AreNext due.options []) (reverse-append (next ∷ []) log) (are-next due.options (next ∷ log) due.right due.acted)) in

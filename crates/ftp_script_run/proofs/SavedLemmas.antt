@@ -12,6 +12,7 @@ use Rattle.ftp_events.specs.Log.{past_of}
 use Rattle.ftp_events.specs.Right.{IsActed, IsRight}
 use Rattle.ftp_hub.specs.declared.state.HubState.{HubState}
 use Rattle.ftp_hub.proofs.Lawful.{logs-pass}
+use Rattle.ftp_text.proofs.SettingsLemmas.{options-once}
 use Rattle.ftp_text.specs.Grammar.{no_state, with_lines}
 use Rattle.ftp_text.specs.Spelling.{state_line}
 use Rattle.ftp_text.specs.StateText.{IsSpelledBy, lines_in}
@@ -24,7 +25,6 @@ use Rattle.ftp_script_run.specs.Legal.{IsLegal, memory_views, start_of}
 use Rattle.ftp_script_run.specs.Outcome.{IsStateText}
 use Rattle.ftp_script_run.specs.Resumed.{HasState, IsDueBehind, Resumes}
 use Rattle.ftp_script_run.specs.Saved.{IsOneLog, IsReadAgain}
-use Rattle.ftp_script_run.proofs.StressRunLemmas.{options-once}
 
 pub read-again : (o : Options) (log : List Entry) (text : List ℕ) → IsRight o log → IsActed o log → IsStateText o log text → IsReadAgain o log text
 read-again o log text right acted t = record {

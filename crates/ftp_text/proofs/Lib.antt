@@ -11,6 +11,7 @@ pub mod FeedLemmas
 pub mod PrintedLemmas
 pub mod EventLemmas
 pub mod OptionsLemmas
+pub mod SettingsLemmas
 pub mod SetupLemmas
 pub mod LineLaws
 pub mod Samples

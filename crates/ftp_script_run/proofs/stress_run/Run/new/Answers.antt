@@ -1,6 +1,6 @@
 use Rattle.std.proofs.Common.{◌∙◌}
 use Rattle.ftp_script_run.specs.Stress.{stress_options}
-use Rattle.ftp_script_run.proofs.StressRunLemmas.{options-once}
+use Rattle.ftp_text.proofs.SettingsLemmas.{options-once}
 use Rattle.ftp_script_run.proofs.stress_run.Run.new.Goals as goal
 
 pub returns : goal.returns
