@@ -4,7 +4,7 @@
 --   is_of_running e         an error with which a server that has an address can end
 --   is_of_listening e       an error with which listening can end
 --   IsPastGrace asked at    the grace period of a shutdown that was asked for is over
---   HasRun result ..        a server that has run ended so
+--   HasServed result ..        a server that has run ended so
 use Rattle.std.specs.Prelude.{◌≡◌, ℕ, ◌+◌, ◌<◌, Bool, true, false, List, Option, None, IsSome, IsSomeAnd, Result, OnOk, IsErrOf}
 use Rattle.ftp_base.specs.declared.net.SocketAddr.{SocketAddr}
 use Rattle.ftp_base.specs.Net.{is_v6}
@@ -41,7 +41,7 @@ IsPastGrace asked at = IsSomeAnd asked (λ a. a.0 + a.1 < at)
 
 -- a server that has run ended so: well, or with a shutdown given up, only where one was asked for, and for want of a thread only
 -- where the spawner's count of faults rose
-pub record HasRun {T : Type 0} (result : Result T ServerError) (asked asked_now : Option (ℕ × ℕ)) (latest spawner_faults spawner_faults_now : ℕ) : Type 0 where
+pub record HasServed {T : Type 0} (result : Result T ServerError) (asked asked_now : Option (ℕ × ℕ)) (latest spawner_faults spawner_faults_now : ℕ) : Type 0 where
   pub ok : OnOk result (IsSome asked_now)
   pub listener : IsErrOf result error.Listener → HasRisen spawner_faults spawner_faults_now
   pub shutdown : IsErrOf result error.Shutdown → asked ≡ None → IsPastGrace asked_now latest

@@ -1,7 +1,7 @@
 //! The life of a server: it accepts connections until a shutdown is asked for, and is then drained.
 
 ghost use Rattle.std.specs.Prelude.{◌≡◌, ◌≢◌, ◌≤◌, ◌<◌, ◌+◌, ◌⊎◌, None, Some, IfErr, IsErrOf, IsSome};
-ghost use Rattle.ftp_listen.specs.Causes.{HasRun};
+ghost use Rattle.ftp_listen.specs.Causes.{HasServed};
 
 use crate::acceptor::Acceptor;
 use crate::listening::{AcceptPoll, ListeningSockets};
@@ -196,7 +196,7 @@ where
     requires all { blank.parts ≡ PARTS }
     requires options { options ≡ L.options }
     requires some { every ≢ Some 0 }
-    ensures run { HasRun result (I.asked indicator.old) (I.asked indicator.new) (F.latest front.new) (P.faults spawner.old) (P.faults spawner.new) }
+    ensures run { HasServed result (I.asked indicator.old) (I.asked indicator.new) (F.latest front.new) (P.faults spawner.old) (P.faults spawner.new) }
     ensures only { IfErr result (λ e. (e ≡ ServerError.Listener) ⊎ ((e ≡ ServerError.Shutdown) ⊎ (e ≡ ServerError.OutOfMemory))) }
     ensures front { F.faults front.old ≤ F.faults front.new }
 {
@@ -256,7 +256,7 @@ where
     <S::Depot as Depot>::Store: Send + 'static,
     <S::Depot as Depot>::Words: Send + 'static,
     requires options { options ≡ H.options }
-    ensures run { HasRun result (I.asked indicator.old) (I.asked indicator.new) (F.latest front.new) (P.faults spawner.old) (P.faults spawner.new) }
+    ensures run { HasServed result (I.asked indicator.old) (I.asked indicator.new) (F.latest front.new) (P.faults spawner.old) (P.faults spawner.new) }
     ensures only { IfErr result (λ e. (e ≡ ServerError.Listener) ⊎ ((e ≡ ServerError.Shutdown) ⊎ (e ≡ ServerError.OutOfMemory))) }
     ensures front { F.faults front.old ≤ F.faults front.new }
 {

@@ -3,7 +3,7 @@
 ghost use Rattle.std.specs.Prelude.{◌≡◌, ◌≢◌, ◌↔◌, ◌⊎◌, None, Some, true, false, IfErr, IfOk, IsErrOf, IsSome, OnOk};
 ghost use Rattle.ftp_base.specs.Outside.{HasRisen};
 ghost use Rattle.ftp_options.specs.Modes.{is_legacy};
-ghost use Rattle.ftp_listen.specs.Causes.{WritesNone, WritesV6, HasRun, IsPastGrace, is_of_listening, is_of_running};
+ghost use Rattle.ftp_listen.specs.Causes.{WritesNone, WritesV6, HasServed, IsPastGrace, is_of_listening, is_of_running};
 
 mod settings;
 
@@ -319,7 +319,7 @@ fn listen_boxed<
 ) -> Result<(), ServerError>
     requires some { every ≢ Some 0 }
     ensures io { IsErrOf result ServerError.Io → HasRisen (F.faults front.old) (F.faults front.new) }
-    ensures run { HasRun result (I.asked indicator.old) (I.asked indicator.new) (F.latest front.new) (P.faults spawner.old) (P.faults spawner.new) }
+    ensures run { HasServed result (I.asked indicator.old) (I.asked indicator.new) (F.latest front.new) (P.faults spawner.old) (P.faults spawner.new) }
     ensures only { IfErr result (λ e. is_of_running e ≡ true) }
 {
     listen_at::<R, BoxedServices<SharedDepot<R, S>, G>, P, F, I>(
@@ -352,7 +352,7 @@ where
     <S::Depot as Depot>::Words: Send + 'static,
     requires some { every ≢ Some 0 }
     ensures io { IsErrOf result ServerError.Io → HasRisen (F.faults front.old) (F.faults front.new) }
-    ensures run { HasRun result (I.asked indicator.old) (I.asked indicator.new) (F.latest front.new) (P.faults spawner.old) (P.faults spawner.new) }
+    ensures run { HasServed result (I.asked indicator.old) (I.asked indicator.new) (F.latest front.new) (P.faults spawner.old) (P.faults spawner.new) }
     ensures only { IfErr result (λ e. is_of_running e ≡ true) }
 {
     let doors = match doors_at(front, at, &options) {
