@@ -9,6 +9,7 @@ use Rattle.ftp_base.specs.Memory as memory
 use Rattle.ftp_base.specs.Outside.{HasRisen}
 use Rattle.ftp_base.proofs.KeptLemmas.{CountsOn-more, CountsOn-same}
 use Rattle.ftp_events.specs.Leads.{Views, told_by}
+use Rattle.ftp_transfer.specs.declared.job.Completion.TheVariants.{OutOfMemory}
 use Rattle.ftp_transfer.specs.declared.job.Job.{Job}
 use Rattle.ftp_transfer.specs.declared.job.Outcome.{Outcome}
 use Rattle.ftp_transfer.specs.Ran.{Told, Ran, Went}
