@@ -17,7 +17,7 @@ ghost use Rattle.ftp_handlers.specs.Handlers.{can_reply, is_auth, is_command, is
 
 use crate::room::Room;
 use crate::{abor, auth_done, cwd, internal, pass, pasv, port, rest, slot_tick, user};
-use ftp_events::{Decision, EventKind, Session};
+use ftp_events::{Decision, EventKind, HubEvent, Session};
 use ftp_lockout::FailedLoginsCache;
 use ftp_options::Options;
 use ftp_switchboard::{Looks, Switchboard};
@@ -34,33 +34,34 @@ use ftp_switchboard::{Looks, Switchboard};
 ///   (`failures`, `policy`, `uncounted`).
 pub fn command(
     session: &mut Session,
-    args: &EventKind,
+    event: &HubEvent,
     board: &mut Switchboard,
     failures: &mut Option<FailedLoginsCache>,
     room: &mut Room,
-    at: u64,
     options: &Options,
 ) -> Decision
-    requires of_this_event { IsTrue (is_command args.now) }
+    requires of_this_event { IsTrue (is_command event.now.kind) }
     requires room { IsReady room.old }
-    requires letters { IsTrue (can_reply args.now) → CanReply (width_for options.now args.now) room.old }
-    requires kept { kept_in room.old ≡ kept_by args.now session.old }
-    requires telling { telling_in room.old ≡ telling_for args.now }
-    requires count { IsTrue (is_auth args.now) → CanCount failures.old options.now }
+    requires letters { IsTrue (can_reply event.now.kind) → CanReply (width_for options.now event.now.kind) room.old }
+    requires kept { kept_in room.old ≡ kept_by event.now.kind session.old }
+    requires telling { telling_in room.old ≡ telling_for event.now.kind }
+    requires count { IsTrue (is_auth event.now.kind) → CanCount failures.old options.now }
     requires range { is_legacy options.now.mode ≡ false → HasRange board.old options.now }
-    requires board_room { IsTrue (is_pasv args.now) → is_legacy options.now.mode ≡ false → HasRoomFor board.old session.old }
+    requires board_room { IsTrue (is_pasv event.now.kind) → is_legacy options.now.mode ≡ false → HasRoomFor board.old session.old }
     ensures goes_on { IsTrue (goes_on result) }
-    ensures decision { (runs : Bool) → result ≡ command_row options.now (surroundings board.old failures.old room.old.used runs room.old.stops at session.old) args.now session.old }
-    ensures session { session.old.notices + 1 < 2 ^ 64 → (answer : Answer) (job : Option Running) → session.new ≡ session_after at args.now answer result (notices_of args.now result answer) job session.old }
-    ensures actions { session.old.notices + 1 < 2 ^ 64 → (answer : Answer) (job : Option Running) → actions_in room.new ≡ session_acts options.now (number_of args.now) args.now answer result job (Some session.old) }
-    ensures failures { (p : FailedLoginsPolicy) → options.now.lockout ≡ Some p → (key : LoginKey) → failures_in failures.new key ≡ failures_left p session.old key args.now at (failures_in failures.old key) }
+    ensures decision { (runs : Bool) → result ≡ command_row options.now (surroundings board.old failures.old room.old.used runs room.old.stops event.now.at session.old) event.now.kind session.old }
+    ensures session { session.old.notices + 1 < 2 ^ 64 → (answer : Answer) (job : Option Running) → session.new ≡ session_after event.now.at event.now.kind answer result (notices_of event.now.kind result answer) job session.old }
+    ensures actions { session.old.notices + 1 < 2 ^ 64 → (answer : Answer) (job : Option Running) → actions_in room.new ≡ session_acts options.now (number_of event.now.kind) event.now.kind answer result job (Some session.old) }
+    ensures failures { (p : FailedLoginsPolicy) → options.now.lockout ≡ Some p → (key : LoginKey) → failures_in failures.new key ≡ failures_left p session.old key event.now.kind event.now.at (failures_in failures.old key) }
     ensures policy { policy_in failures.new ≡ policy_in failures.old }
-    ensures uncounted { is_auth args.now ≡ false → failures.new ≡ failures.old }
-    ensures holders { is_legacy options.now.mode ≡ false → (a p : ℕ) → holder_at board.new a p ≡ held_after result (number_of args.now) (ipv4 session.old.opening.client) (waiting_port session.old.slot) a p (holder_at board.old a p) }
+    ensures uncounted { is_auth event.now.kind ≡ false → failures.new ≡ failures.old }
+    ensures holders { is_legacy options.now.mode ≡ false → (a p : ℕ) → holder_at board.new a p ≡ held_after result (number_of event.now.kind) (ipv4 session.old.opening.client) (waiting_port session.old.slot) a p (holder_at board.old a p) }
     ensures alone { is_legacy options.now.mode ≡ true → board.new ≡ board.old }
     ensures range { SameRange board.old board.new }
     ensures twice { twice_in room.new ≡ twice_in room.old }
 {
+    let args = &event.kind;
+    let at = event.at;
     match args {
         EventKind::User { .. } => user::handle(session, args, room, at),
         EventKind::Pass { .. } => pass::handle(session, args, board, room, at, options),

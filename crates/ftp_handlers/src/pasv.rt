@@ -22,14 +22,12 @@ ghost use Rattle.ftp_handlers.specs.Handlers.{is_pasv, goes_on, number_of, notic
 
 use crate::login::ask_for_login;
 use crate::room::Room;
+use crate::transfer::NO_CONNECTION;
 use ftp_base::{IpAddr, ReplyCode};
 use ftp_events::{Decision, EventKind, Login, Session, Slot};
 use ftp_options::{Options, PassiveHost};
 use ftp_switchboard::{Looks, Switchboard};
 use std::mem;
-
-// What is told where no socket was bound for the session, or there is no address to show.
-const NO_CONNECTION: &[u8] = b"No data connection established";
 
 /// Reserves a passive port for the session's client, or takes the one that was bound for the session alone, and
 /// advertises it.

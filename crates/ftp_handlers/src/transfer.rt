@@ -17,6 +17,9 @@ use ftp_events::{Decision, EventKind, Login, Session, Slot};
 use ftp_options::Options;
 use ftp_switchboard::Switchboard;
 
+/// What is told where a transfer has no link, and a PASV no socket or no address to show.
+pub(crate) const NO_CONNECTION: &[u8] = b"No data connection established";
+
 /// Queues the transfer in the session's slot, where that waits for a link or has one and no other transfer waits.
 ///
 /// # Proved
@@ -55,11 +58,7 @@ pub fn handle(
         return ask_for_login(number, room);
     }
     if !can_queue(session) {
-        room.reply(
-            number,
-            ReplyCode::CantOpenDataConnection,
-            b"No data connection established",
-        );
+        room.reply(number, ReplyCode::CantOpenDataConnection, NO_CONNECTION);
         return Decision::NoSlot;
     }
     let Some(pending) = room.take_pending() else {

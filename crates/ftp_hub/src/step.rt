@@ -204,11 +204,10 @@ impl Hub {
         }
         let decision = command(
             session,
-            &event.kind,
+            event,
             &mut self.board,
             &mut self.failures,
             room,
-            event.at,
             &self.options,
         );
         use_number(&mut self.numbers, &event.kind, decision);
@@ -228,7 +227,7 @@ impl Hub {
         let Some(session) = self.sessions.get_mut(&number) else {
             return Decision::UnknownNumber;
         };
-        let decision = idle_tick(session, &event.kind, runs, event.at, &self.options);
+        let decision = idle_tick(session, event, runs, &self.options);
         if let Decision::TimedOut = decision {
             return self.close(room, event, number);
         }
@@ -252,13 +251,7 @@ impl Hub {
             return Decision::UnknownNumber;
         };
         let mut session = session;
-        ending(
-            &mut session,
-            &event.kind,
-            &mut self.board,
-            room,
-            &self.options,
-        )
+        ending(&mut session, event, &mut self.board, room, &self.options)
     }
 
     // The end of a transfer, or a piece of it, which may be the last.

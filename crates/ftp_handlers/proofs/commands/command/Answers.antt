@@ -19,29 +19,29 @@ without_notice at k answer d row job old new is silent same =
 -- none of these commands notifies anybody
 pub returns-in-User-clause-session : goal.returns-in-User-clause-session
 returns-in-User-clause-session c few answer job =
-    without_notice c.args.at c.args.args.now answer c.handle.result _ job c.args.session.now _ c.handle.ensures.decision (user-silent c.args.args.now answer c.args.session.now.login) (c.handle.ensures.session answer job)
+    without_notice c.args.event.now.at c.args.event.now.kind answer c.handle.result _ job c.args.session.now _ c.handle.ensures.decision (user-silent c.args.event.now.kind answer c.args.session.now.login) (c.handle.ensures.session answer job)
 
 pub returns-in-Pass-clause-session : goal.returns-in-Pass-clause-session
 returns-in-Pass-clause-session c few answer job =
-    without_notice c.args.at c.args.args.now answer c.handle-in-Pass.result _ job c.args.session.now _ c.handle-in-Pass.ensures.decision (pass-silent c.args.args.now answer c.args.session.now.login) (c.handle-in-Pass.ensures.session answer job)
+    without_notice c.args.event.now.at c.args.event.now.kind answer c.handle-in-Pass.result _ job c.args.session.now _ c.handle-in-Pass.ensures.decision (pass-silent c.args.event.now.kind answer c.args.session.now.login) (c.handle-in-Pass.ensures.session answer job)
 
 pub returns-in-Rest-clause-session : goal.returns-in-Rest-clause-session
 returns-in-Rest-clause-session c few answer job =
-    without_notice c.args.at c.args.args.now answer c.handle-in-Rest.result _ job c.args.session.now _ c.handle-in-Rest.ensures.decision (rest-silent c.args.args.now answer c.args.options.now c.args.session.now) (c.handle-in-Rest.ensures.session answer job)
+    without_notice c.args.event.now.at c.args.event.now.kind answer c.handle-in-Rest.result _ job c.args.session.now _ c.handle-in-Rest.ensures.decision (rest-silent c.args.event.now.kind answer c.args.options.now c.args.session.now) (c.handle-in-Rest.ensures.session answer job)
 
 pub returns-in-Cwd-clause-session : goal.returns-in-Cwd-clause-session
 returns-in-Cwd-clause-session c few answer job =
-    without_notice c.args.at c.args.args.now answer c.handle-in-Cwd.result _ job c.args.session.now _ c.handle-in-Cwd.ensures.decision (cwd-silent c.args.args.now answer c.args.session.now (refusal_of c.args.args.now)) (c.handle-in-Cwd.ensures.session answer job)
+    without_notice c.args.event.now.at c.args.event.now.kind answer c.handle-in-Cwd.result _ job c.args.session.now _ c.handle-in-Cwd.ensures.decision (cwd-silent c.args.event.now.kind answer c.args.session.now (refusal_of c.args.event.now.kind)) (c.handle-in-Cwd.ensures.session answer job)
 
 pub returns-in-Abor-clause-session : goal.returns-in-Abor-clause-session
 returns-in-Abor-clause-session c few answer job =
-    without_notice c.args.at c.args.args.now answer c.handle-in-Abor.result _ job c.args.session.now _ c.handle-in-Abor.ensures.decision (abor-silent c.args.args.now answer c.args.room.now.stops c.args.session.now) (c.handle-in-Abor.ensures.session answer job)
+    without_notice c.args.event.now.at c.args.event.now.kind answer c.handle-in-Abor.result _ job c.args.session.now _ c.handle-in-Abor.ensures.decision (abor-silent c.args.event.now.kind answer c.args.room.now.stops c.args.session.now) (c.handle-in-Abor.ensures.session answer job)
 
 pub returns-in-SlotTick-clause-session : goal.returns-in-SlotTick-clause-session
 returns-in-SlotTick-clause-session c few answer job =
     let k : EventKind = SlotTick c.in-SlotTick.number in
     rw c.in-SlotTick.is
-    (without_notice c.args.at k answer c.handle-in-SlotTick.result _ job c.args.session.now _ c.handle-in-SlotTick.ensures.decision (slot-silent k answer c.args.options.now c.args.at c.args.session.now) (c.handle-in-SlotTick.ensures.session answer job))
+    (without_notice c.args.event.now.at k answer c.handle-in-SlotTick.result _ job c.args.session.now _ c.handle-in-SlotTick.ensures.decision (slot-silent k answer c.args.options.now c.args.event.now.at c.args.session.now) (c.handle-in-SlotTick.ensures.session answer job))
 
 -- the answer to a password may notify
 pub returns-in-AuthDone-clause-session : goal.returns-in-AuthDone-clause-session
