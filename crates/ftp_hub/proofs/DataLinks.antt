@@ -32,18 +32,18 @@ use Rattle.ftp_hub.proofs.Clients.{held-waits}
 use Rattle.ftp_hub.proofs.Commands.{due-named}
 use Rattle.ftp_laws.proofs.LockoutLemmas.{failures-other}
 use Rattle.ftp_hub.proofs.Failures.{linked-other}
-use Rattle.ftp_hub.proofs.Moved.{jobs-start, sessions-stay}
-use Rattle.ftp_hub.proofs.Decisions.{Comes}
+use Rattle.ftp_hub.proofs.Moved.{Sessions, jobs-start, sessions-stay}
+use Rattle.ftp_hub.proofs.Decisions.{Comes, passes-live}
 use Rattle.ftp_hub.proofs.Running.{unstopped}
 
 pub turned-comes : Comes decision.Turned
-turned-comes = record { counts = refl; plain = refl; unopened = λ k. refl; no_grant = refl; keeps = refl; lives = refl; silent = λ k answer. refl; as_many = λ n. refl; unfinished = refl; kept = λ answer job. refl }
+turned-comes = record { passes = record { counts = refl; plain = refl; unopened = λ k. refl; no_grant = refl; keeps = refl; lives = refl; as_many = λ n. refl }; silent = λ k answer. refl; unfinished = refl; kept = λ answer job. refl }
 
 attached-comes : (s : ℕ) → Comes (decision.Attached s)
-attached-comes s = record { counts = refl; plain = refl; unopened = λ k. refl; no_grant = refl; keeps = refl; lives = refl; silent = λ k answer. refl; as_many = λ n. refl; unfinished = refl; kept = λ answer job. refl }
+attached-comes s = record { passes = record { counts = refl; plain = refl; unopened = λ k. refl; no_grant = refl; keeps = refl; lives = refl; as_many = λ n. refl }; silent = λ k answer. refl; unfinished = refl; kept = λ answer job. refl }
 
 pub fault-comes : (fault : ProxyError) → Comes (decision.HeaderFault fault)
-fault-comes fault = record { counts = refl; plain = refl; unopened = λ k. refl; no_grant = refl; keeps = refl; lives = refl; silent = λ k answer. refl; as_many = λ n. refl; unfinished = refl; kept = λ answer job. refl }
+fault-comes fault = record { passes = record { counts = refl; plain = refl; unopened = λ k. refl; no_grant = refl; keeps = refl; lives = refl; as_many = λ n. refl }; silent = λ k answer. refl; unfinished = refl; kept = λ answer job. refl }
 
 arrival-comes : (welcome : Bool) (s : ℕ) → Comes (arrival_of welcome s)
 arrival-comes true s = attached-comes s
@@ -105,35 +105,32 @@ pub serves-nobody :
     Stands old log → Comes d → d ≡ decide old.options log event answer →
     meant old.options (past_of log) (entry event answer d done) ≡ None →
     done ≡ refused_link event.kind d → ((n : ℕ) → running_after d done n ≡ n) →
-    new.options ≡ old.options →
-    ((q : ℕ) → map.get nat_eq new.sessions q ≡ map.get nat_eq old.sessions q) →
-    (map.hash_map_len new.sessions ≡ map.hash_map_len old.sessions) →
-    new.jobs ≡ old.jobs →
+    new.options ≡ old.options → new.sessions ≡ old.sessions → new.jobs ≡ old.jobs →
     ((q : ℕ) → has new.numbers q ≡ (is_number (new_number event.kind d) q || has old.numbers q)) →
     ((a p : ℕ) → holder_at new.board a p ≡ holder old.options (entry event answer d done ∷ past_of log) (V4 a) p) →
     ((key : LoginKey) → failures_in new.failures key ≡ failures old.options (entry event answer d done ∷ past_of log) key) →
     new.stopped ≡ old.stopped →
     Serves old new log event answer d done
 unfolding acts
-serves-nobody old new log event answer d done st comes right nobody closed ran same table len jobs numbers board failed stopped =
+serves-nobody old new log event answer d done st comes right nobody closed ran same sessions jobs numbers board failed stopped =
     record {
       decision = right;
       done = closed ∙ sym due_acts;
-      tables = subst (Tables new) (sym (counting-counts e log comes.counts)) (record {
+      tables = subst (Tables new) (sym (counting-counts e log comes.passes.counts)) (record {
         sessions = λ q.
-            table q ∙ st.tables.sessions q
-            ∙ sym (session-other o past e q (rw (comes.unopened event.kind) refl) (nobody-concerns o past e q about))
+            ap (λ (m : Sessions). map.get nat_eq m q) sessions ∙ st.tables.sessions q
+            ∙ sym (session-other o past e q (rw (comes.passes.unopened event.kind) refl) (nobody-concerns o past e q about))
             ∙ ap (λ (o : Options). session o (e ∷ past) q) (sym same);
-        live = len ∙ st.tables.live ∙ sym (comes.as_many _);
+        live = ap map.hash_map_len sessions ∙ st.tables.live ∙ sym (comes.passes.as_many _);
         jobs = λ q.
             ap (λ (m : Jobs). map.get nat_eq m q) jobs ∙ st.tables.jobs q
-            ∙ sym (running-other o past e q (rw (comes.unopened event.kind) refl) (nobody-concerns o past e q about))
+            ∙ sym (running-other o past e q (rw (comes.passes.unopened event.kind) refl) (nobody-concerns o past e q about))
             ∙ ap (λ (o : Options). running_job o (e ∷ past) q) (sym same);
         running = ap map.hash_map_len jobs ∙ st.tables.running ∙ sym (ran (running_count past));
         numbers = λ q. numbers q ∙ ap (λ b. is_number (new_number event.kind d) q || b) (st.tables.numbers q);
         holders = λ a p. board a p ∙ ap (λ (o : Options). holder o (e ∷ past) (V4 a) p) (sym same);
         failures = λ key. failed key ∙ ap (λ (o : Options). failures o (e ∷ past) key) (sym same);
-        stopped = stopped ∙ st.tables.stopped ∙ sym (ap (λ b. b || is_stopped past) comes.plain);
+        stopped = stopped ∙ st.tables.stopped ∙ sym (ap (λ b. b || is_stopped past) comes.passes.plain);
       });
     }
   where
@@ -147,10 +144,10 @@ serves-nobody old new log event answer d done st comes right nobody closed ran s
     e = entry event answer d done
 
     about : subject o past e ≡ Nobody
-    about = subject-plain o past e comes.plain ∙ ap one_or_nobody nobody
+    about = subject-plain o past e comes.passes.plain ∙ ap one_or_nobody nobody
 
     due_acts : acts_of o past e ≡ refused_link event.kind d
-    due_acts = rw (comes.counts, about) refl
+    due_acts = rw (comes.passes.counts, about) refl
 
 -- a connection that is about no session is closed
 pub serves-closed :
@@ -159,17 +156,14 @@ pub serves-closed :
     meant old.options (past_of log) (entry event answer d done) ≡ None →
     refused_link event.kind d ≡ closings (new_number event.kind d) → new_number event.kind d ≡ Some n →
     done ≡ action.Close n ∷ [] →
-    new.options ≡ old.options →
-    ((q : ℕ) → map.get nat_eq new.sessions q ≡ map.get nat_eq old.sessions q) →
-    (map.hash_map_len new.sessions ≡ map.hash_map_len old.sessions) →
-    new.jobs ≡ old.jobs →
+    new.options ≡ old.options → new.sessions ≡ old.sessions → new.jobs ≡ old.jobs →
     ((q : ℕ) → has new.numbers q ≡ ((n == q) || has old.numbers q)) →
     ((a p : ℕ) → holder_at new.board a p ≡ holder old.options (entry event answer d done ∷ past_of log) (V4 a) p) →
     new.failures ≡ old.failures → new.stopped ≡ old.stopped →
     Serves old new log event answer d done
-serves-closed old new log event answer d done n st comes right nobody closed brings closes same table len jobs numbers board failed stopped =
+serves-closed old new log event answer d done n st comes right nobody closed brings closes same sessions jobs numbers board failed stopped =
     serves-nobody old new log event answer d done st comes right nobody (closes ∙ sym (closed ∙ ap closings brings))
-    (λ k. ap (λ xs. running_after d xs k) closes ∙ none_ran k) same table len jobs
+    (λ k. ap (λ xs. running_after d xs k) closes ∙ none_ran k) same sessions jobs
     (λ q. numbers q ∙ ap (λ (x : Option ℕ). is_number x q || has old.numbers q) (sym brings))
     board (λ key. failed-linked old new log event answer d done n key st brings failed) stopped
   where
@@ -184,7 +178,7 @@ holders-arrived :
 holders-arrived hub log event answer d done arr a p st link comes =
     let before : Option ℕ = holder hub.options (past_of log) (V4 a) p in
     holder-arrived hub.options (past_of log) (entry event answer d done) (record { client = V4 arr.source; port = arr.port }) (V4 a) p
-    (record { to = link.to; plain = comes.plain; unnamed = link.unnamed; no_grant = comes.no_grant })
+    (record { to = link.to; plain = comes.passes.plain; unnamed = link.unnamed; no_grant = comes.passes.no_grant })
     ∙ ap (λ b. cond (b && (arr.port == p)) None before) (eq-comm arr.source a)
     ∙ ap (λ b. cond ((a == arr.source) && b) None before) (eq-comm arr.port p)
     ∙ ap (λ (x : Option ℕ). cond (is_key a p arr.source arr.port) None x) (sym (st.tables.holders a p))
@@ -195,19 +189,16 @@ pub serves-unheld :
     Stands old log → IsDataLink old.options event answer arr → is_used (past_of log) arr.number ≡ false → old.stopped ≡ false →
     holder_at old.board arr.source arr.port ≡ None →
     done ≡ action.Close arr.number ∷ [] →
-    new.options ≡ old.options →
-    ((q : ℕ) → map.get nat_eq new.sessions q ≡ map.get nat_eq old.sessions q) →
-    (map.hash_map_len new.sessions ≡ map.hash_map_len old.sessions) →
-    new.jobs ≡ old.jobs →
+    new.options ≡ old.options → new.sessions ≡ old.sessions → new.jobs ≡ old.jobs →
     ((q : ℕ) → has new.numbers q ≡ ((arr.number == q) || has old.numbers q)) →
     ((a p : ℕ) → holder_at new.board a p ≡ cond (is_key a p arr.source arr.port) None (holder_at old.board a p)) →
     new.failures ≡ old.failures → new.stopped ≡ old.stopped →
     Serves old new log event answer decision.Turned done
 unfolding decide
-serves-unheld old new log event answer done arr st link unused going nobody closes same table len jobs numbers board failed stopped =
+serves-unheld old new log event answer done arr st link unused going nobody closes same sessions jobs numbers board failed stopped =
     serves-closed old new log event answer decision.Turned done arr.number st turned-comes
     (sym (link.row past unused (sym st.tables.stopped ∙ going) ∙ ap (λ (h : Option ℕ). cond (not (in_range o arr.port)) decision.Turned (holder_row o past arr.raw h)) unheld ∙ same-both (not (in_range o arr.port)) decision.Turned))
-    (rw (link.unnamed, link.to) unheld) refl (link.brings decision.Turned) closes same table len jobs numbers
+    (rw (link.unnamed, link.to) unheld) refl (link.brings decision.Turned) closes same sessions jobs numbers
     (λ a p. board a p ∙ sym (holders-arrived old log event answer decision.Turned done arr a p st link turned-comes)) failed stopped
   where
     o : Options
@@ -236,11 +227,11 @@ pub serves-held :
     Serves old new log event answer (decided_on old.options arr v s) done
 unfolding decide
 serves-held old new log event answer done arr s v after st link unused going held there after_is acted same table len begins numbers board failed stopped =
-    serves-about old new log event answer d done s v after st comes.counts about known (sym (link.row past unused (sym st.tables.stopped ∙ going) ∙ rw (holds, known) (arrival-row (in_range o arr.port) (same_ip v.opening.raw.ip arr.raw.ip) s))) acted
+    serves-about old new log event answer d done s v after st comes.passes.counts about known (sym (link.row past unused (sym st.tables.stopped ∙ going) ∙ rw (holds, known) (arrival-row (in_range o arr.port) (same_ip v.opening.raw.ip arr.raw.ip) s))) acted
     (record {
       options = same;
       session = after_is ∙ ap (λ c. session_after event.at event.kind answer d c job v) (sym (comes.silent event.kind answer));
-      sessions = sessions-stay old.sessions new.sessions d s after comes.lives comes.as_many table len;
+      sessions = sessions-stay old.sessions new.sessions d s after (passes-live d comes.passes) comes.passes.as_many table len;
       jobs = jobs-start old.jobs new.jobs o event.kind answer d done s v comes.unfinished (comes.kept answer) begins acted;
     })
     (λ q. rw (link.brings d) (numbers q ∙ ap (λ b. (arr.number == q) || b) (st.tables.numbers q)))
@@ -271,7 +262,7 @@ serves-held old new log event answer done arr s v after st link unused going hel
     about : IsAbout o past (entry event answer d done) s
     about =
         arrival-about o past (entry event answer d done) (record { client = V4 arr.source; port = arr.port }) s
-        (record { to = link.to; plain = comes.plain; unnamed = link.unnamed; no_grant = comes.no_grant }) (comes.unopened event.kind) holds
+        (record { to = link.to; plain = comes.passes.plain; unnamed = link.unnamed; no_grant = comes.passes.no_grant }) (comes.passes.unopened event.kind) holds
 
 -- whoever holds a port is live
 pub held-live : (hub : Hub) (log : List Entry) (a p s : ℕ) → Stands hub log → holder_at hub.board a p ≡ Some s → map.get nat_eq hub.sessions s ≡ None → ⊥
@@ -297,13 +288,13 @@ pub serves-accepted :
     Serves old new log event answer (arrival_of (is_waiting v.slot && same_ip v.opening.raw.ip raw.ip) s) done
 unfolding decide
 serves-accepted old new log event answer done s n raw v after st is legacy unused there after_is acted same table len begins numbers board failed stopped =
-    serves-about old new log event answer d done s v after st comes.counts
-    (record { subject_is = subject-plain o past e comes.plain ∙ rw named refl; unopened = comes.unopened event.kind }) known
+    serves-about old new log event answer d done s v after st comes.passes.counts
+    (record { subject_is = subject-plain o past e comes.passes.plain ∙ rw named refl; unopened = comes.passes.unopened event.kind }) known
     (sym (due-named o past event.at event.kind answer s (Some v) (rw is refl) named known ∙ rw (is, legacy, unused) refl)) acted
     (record {
       options = same;
       session = after_is ∙ ap (λ c. session_after event.at event.kind answer d c (map.get nat_eq old.jobs s) v) (sym (comes.silent event.kind answer));
-      sessions = sessions-stay old.sessions new.sessions d s after comes.lives comes.as_many table len;
+      sessions = sessions-stay old.sessions new.sessions d s after (passes-live d comes.passes) comes.passes.as_many table len;
       jobs = jobs-start old.jobs new.jobs o event.kind answer d done s v comes.unfinished (comes.kept answer) begins acted;
     })
     (λ q. rw (brings d) (numbers q ∙ ap (λ b. (n == q) || b) (st.tables.numbers q)))

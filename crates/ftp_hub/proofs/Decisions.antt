@@ -15,29 +15,37 @@ use Rattle.ftp_events.specs.Classes.{gives_up, is_ending, is_stop, slot_move}
 use Rattle.ftp_events.specs.Opening.{opened_number}
 use Rattle.ftp_events.specs.Board.{granted_port, gives_up_hold}
 use Rattle.ftp_events.specs.Running.{ended}
-use Rattle.ftp_events.specs.Session.{queued_for, lane_in}
+use Rattle.ftp_events.specs.Session.{life_by, queued_for, lane_in}
 use Rattle.ftp_events.specs.Acts.{stays}
 use Rattle.ftp_handlers.specs.Handlers.{held_by}
 use Rattle.ftp_laws.proofs.BalanceLemmas.{is_finished, no-completion}
 use Rattle.ftp_laws.proofs.RunningLemmas.{running-after}
 use Rattle.ftp_hub.proofs.Running.{IsIdle, count-start, running-acts, unstopped}
 
--- a decision that neither opens a session nor ends any, grants no port and gives none up, is no refusal and no end or piece of a transfer, stops none, and sends its session no notice
-pub record Comes (d : Decision) : Type 0 where
+-- a decision that neither opens nor ends a session, grants no port and gives none up, and is no refusal
+pub record Passes (d : Decision) : Type 0 where
   pub counts : is_refusal d ≡ false
   pub plain : is_stop d ≡ false
   pub unopened : (k : EventKind) → opened_number k d ≡ None
   pub no_grant : granted_port d ≡ None
   pub keeps : gives_up_hold d ≡ false
-  pub lives : lives_on d ≡ true
-  pub silent : (k : EventKind) (answer : Answer) → notices_of k d answer ≡ 0
+  pub lives : life_by d ≡ None
   pub as_many : (n : ℕ) → live_after d n ≡ n
+
+-- with such a decision the session lives on
+pub passes-live : (d : Decision) → Passes d → lives_on d ≡ true
+passes-live d passes = ap (λ (told : Option Bool). unwrap_or told true) passes.lives
+
+-- such a decision that is no end or piece of a transfer either, stops none, and sends its session no notice
+pub record Comes (d : Decision) : Type 0 where
+  pub passes : Passes d
+  pub silent : (k : EventKind) (answer : Answer) → notices_of k d answer ≡ 0
   pub unfinished : is_finished d ≡ false
   pub kept : (answer : Answer) (job : Option Running) → kept_running d answer job ≡ job
 
 -- with such a decision no hold changes
 pub comes-held : (d : Decision) (s : ℕ) (client waited : Option ℕ) (a p : ℕ) (before : Option ℕ) → Comes d → held_after d s client waited a p before ≡ before
-comes-held d s client waited a p before comes = go (slot_move d) comes.keeps
+comes-held d s client waited a p before comes = go (slot_move d) comes.passes.keeps
   where
     go : (m : SlotMove) → gives_up m ≡ false → held_by m s client waited a p before ≡ before
     go (Awaits port) h = cc

@@ -4,7 +4,7 @@ use Rattle.std.specs.Prelude.{◌==◌, nat_eq}
 use Rattle.std.specs.Option.{option_map, option_or}
 use Rattle.std.specs.HashMap as map
 use Rattle.std.proofs.lemmas.Option.{same_Some}
-use Rattle.ftp_hub.proofs.Common.{Action, Answer, Decision, Entry, EventKind, Hub, HubEvent, Jobs, Options, Pending, Running, Serves, Session, Stands, Starts, Tables, Ticket, V4, acts, decide, entry, failures, failures_in, has, held_after, history, holder, holder_at, ipv4, is_refusal, is_used, job_ticket, kept_running, live_after, named_session, new_number, next_running, notices_of, past_of, running_after, running_job, session, session_acts, session_after, starting, stopped, waiting_port}
+use Rattle.ftp_hub.proofs.Common.{Action, Answer, Decision, Entry, EventKind, Hub, HubEvent, Jobs, Options, Pending, Running, Serves, Session, Stands, Starts, Tables, Ticket, V4, acts, decide, entry, failures, failures_in, has, held_after, history, holder, holder_at, ipv4, is_used, job_ticket, kept_running, named_session, new_number, next_running, notices_of, past_of, running_after, running_job, session, session_acts, session_after, starting, stopped, waiting_port}
 use Rattle.ftp_lockout.specs.Failures.{Table}
 use Rattle.ftp_switchboard.specs.Board.{Board}
 use Rattle.ftp_switchboard.specs.Used.{Used}
@@ -18,10 +18,9 @@ use Rattle.ftp_events.specs.declared.event.EventKind.TheVariants as kind
 use Rattle.ftp_events.specs.declared.session.Opening.{Opening}
 use Rattle.ftp_events.specs.declared.session.Slot.TheVariants.{Empty}
 use Rattle.ftp_events.specs.Acts.{acts_of, completions, stays}
-use Rattle.ftp_events.specs.Board.{granted_port, gives_up_hold}
-use Rattle.ftp_events.specs.Classes.{is_stop, slot_move}
+use Rattle.ftp_events.specs.Classes.{slot_move}
 use Rattle.ftp_events.specs.Decide.{due}
-use Rattle.ftp_events.specs.Opening.{opened_number, opener}
+use Rattle.ftp_events.specs.Opening.{opener}
 use Rattle.ftp_events.specs.History.{One, opens, concerns, subject}
 use Rattle.ftp_events.specs.Log.{is_stopped}
 use Rattle.ftp_events.specs.Running.{ended}
@@ -41,10 +40,10 @@ use Rattle.ftp_handlers.specs.Handlers.{is_auth, is_transfer}
 use Rattle.ftp_hub.specs.Arrivals.{is_accepted}
 use Rattle.ftp_hub.specs.Endings.{is_piece}
 use Rattle.ftp_hub.proofs.Running.{count-start, running-acts}
-use Rattle.ftp_hub.proofs.Decisions.{Comes}
+use Rattle.ftp_hub.proofs.Decisions.{Comes, Passes}
 use Rattle.ftp_hub.proofs.Commands.{IsPlain}
 use Rattle.ftp_hub.proofs.Failures.{FailuresMoved, failures-stay}
-use Rattle.ftp_hub.proofs.Moved.{Moved, SessionsMoved}
+use Rattle.ftp_hub.proofs.Moved.{Moved, Sessions, SessionsMoved}
 use Rattle.ftp_hub.proofs.Named.{serves-named}
 use Rattle.ftp_laws.proofs.LockoutLemmas.{failures-other, tells_failures}
 
@@ -65,9 +64,9 @@ transfer-plain k c = record { no_end = refl; no_link = refl }
 
 -- a job may start with its decision
 transfer-decides : (b c : Bool) (t : Ticket) → Comes (cond b (cond c (decision.Queued t) decision.NoSlot) decision.NotLoggedIn)
-transfer-decides true true t = record { counts = refl; plain = refl; unopened = λ k. refl; no_grant = refl; keeps = refl; lives = refl; silent = λ k answer. refl; as_many = λ n. refl; unfinished = refl; kept = λ answer job. refl }
-transfer-decides true false t = record { counts = refl; plain = refl; unopened = λ k. refl; no_grant = refl; keeps = refl; lives = refl; silent = λ k answer. refl; as_many = λ n. refl; unfinished = refl; kept = λ answer job. refl }
-transfer-decides false c t = record { counts = refl; plain = refl; unopened = λ k. refl; no_grant = refl; keeps = refl; lives = refl; silent = λ k answer. refl; as_many = λ n. refl; unfinished = refl; kept = λ answer job. refl }
+transfer-decides true true t = record { passes = record { counts = refl; plain = refl; unopened = λ k. refl; no_grant = refl; keeps = refl; lives = refl; as_many = λ n. refl }; silent = λ k answer. refl; unfinished = refl; kept = λ answer job. refl }
+transfer-decides true false t = record { passes = record { counts = refl; plain = refl; unopened = λ k. refl; no_grant = refl; keeps = refl; lives = refl; as_many = λ n. refl }; silent = λ k answer. refl; unfinished = refl; kept = λ answer job. refl }
+transfer-decides false c t = record { passes = record { counts = refl; plain = refl; unopened = λ k. refl; no_grant = refl; keeps = refl; lives = refl; as_many = λ n. refl }; silent = λ k answer. refl; unfinished = refl; kept = λ answer job. refl }
 
 pub transfer-comes : (s : ℕ) (v : Session) (d : Decision) → d ≡ if_logged_in v (transfer_row s v) → Comes d
 transfer-comes s v d e = subst Comes (sym e) (transfer-decides (is_logged_in v.login) (can_queue v.slot v.pending) (record { session = s; nr = v.tickets + 1 }))
@@ -172,16 +171,6 @@ cut-due hub log event given t r st told there same stops =
     ∙ ap (λ b. cond b (unless_marked r (row_of event.kind r.job given)) decision.UnknownNumber) (same-ticket r.job.ticket t same)
     ∙ ap (λ b. cond b decision.Cut (row_of event.kind r.job given)) stops)
 
--- a decision that neither opens nor ends a session, grants no port and gives none up, and is no refusal
-pub record Passes (d : Decision) : Type 0 where
-  pub counts : is_refusal d ≡ false
-  pub plain : is_stop d ≡ false
-  pub unopened : (k : EventKind) → opened_number k d ≡ None
-  pub no_grant : granted_port d ≡ None
-  pub keeps : gives_up_hold d ≡ false
-  pub lives : life_by d ≡ None
-  pub as_many : (n : ℕ) → live_after d n ≡ n
-
 pub finished-passes : Passes decision.Finished
 finished-passes = record { counts = refl; plain = refl; unopened = λ k. refl; no_grant = refl; keeps = refl; lives = refl; as_many = λ n. refl }
 
@@ -208,30 +197,29 @@ pub serves-lost :
     d ≡ decide old.options log event given →
     done ≡ session_acts old.options t.session event.kind given d (Some r) None →
     ((number : Option ℕ) (queued : Option Pending) (l : Lane) → l.slot ≡ Empty → l.running ≡ Some r → kept_running d given (moved (slot_move d) number queued l).running ≡ after) →
-    new.options ≡ old.options →
-    ((q : ℕ) → map.get nat_eq new.sessions q ≡ map.get nat_eq old.sessions q) →
-    (map.hash_map_len new.sessions ≡ map.hash_map_len old.sessions) →
+    new.options ≡ old.options → new.sessions ≡ old.sessions →
     ((q : ℕ) → map.get nat_eq new.jobs q ≡ cond (t.session == q) after (map.get nat_eq old.jobs q)) →
     (map.hash_map_len new.jobs ≡ running_after d done (map.hash_map_len old.jobs)) →
-    ((q : ℕ) → has new.numbers q ≡ has old.numbers q) →
-    ((a p : ℕ) → holder_at new.board a p ≡ holder_at old.board a p) →
-    new.failures ≡ old.failures → new.stopped ≡ old.stopped →
+    new.numbers ≡ old.numbers → new.board ≡ old.board → new.failures ≡ old.failures → new.stopped ≡ old.stopped →
     Serves old new log event given d done
 unfolding acts
-serves-lost old new log event given d done t r after st passes told there none right completes goes same sessions len jobs as_many numbers board failed stopped =
+serves-lost old new log event given d done t r after st passes told there none right completes goes same sessions jobs as_many numbers board failed stopped =
     record {
       decision = right;
       done = completes ∙ sym due_acts;
       tables = subst (Tables new) (sym (counting-counts e log passes.counts)) (record {
-        sessions = λ q. sessions q ∙ st.tables.sessions q ∙ sym (session_then q (t.session == q) refl) ∙ ap (λ (o : Options). session o (e ∷ past) q) (sym same);
-        live = len ∙ st.tables.live ∙ sym (passes.as_many _);
+        sessions = λ q.
+            ap (λ (m : Sessions). map.get nat_eq m q) sessions ∙ st.tables.sessions q
+            ∙ sym (session_then q (t.session == q) refl)
+            ∙ ap (λ (o : Options). session o (e ∷ past) q) (sym same);
+        live = ap map.hash_map_len sessions ∙ st.tables.live ∙ sym (passes.as_many _);
         jobs = λ q. jobs q ∙ job_then q (t.session == q) refl ∙ ap (λ (o : Options). running_job o (e ∷ past) q) (sym same);
         running = as_many ∙ ap (running_after d done) st.tables.running;
         numbers = λ q.
-            numbers q ∙ st.tables.numbers q
+            ap (λ (x : Used). has x q) numbers ∙ st.tables.numbers q
             ∙ sym (ap (λ (n : Option ℕ). is_number n q || is_used past q) (by_telling (λ (k : EventKind). new_number k d ≡ None) event.kind t told refl refl));
         holders = λ a p.
-            board a p ∙ st.tables.holders a p
+            ap (λ (x : Board). holder_at x a p) board ∙ st.tables.holders a p
             ∙ sym (holder-named o past e t.session (V4 a) p (record { plain = passes.plain; named = named; no_target = named-target o event.kind given t.session named }) passes.no_grant
             ∙ ap (λ b. cond (b && is_number (holder o past (V4 a) p) t.session) None (holder o past (V4 a) p)) passes.keeps)
             ∙ ap (λ (o : Options). holder o (e ∷ past) (V4 a) p) (sym same);

@@ -25,7 +25,6 @@ use Rattle.ftp_laws.proofs.StopLemmas.{holder-stopped, running-stopped as job-st
 use Rattle.ftp_laws.proofs.TableLemmas.{no-gift}
 use Rattle.ftp_hub.specs.Arrivals.{IsLate}
 use Rattle.ftp_hub.proofs.DataLinks.{serves-closed, turned-comes}
-use Rattle.ftp_hub.proofs.Moved.{Sessions}
 use Rattle.ftp_hub.proofs.Running.{running-stopped}
 
 -- who leaves with a stop, in order, are the live sessions
@@ -107,8 +106,7 @@ pub serves-late :
 unfolding decide
 serves-late old new log event answer done n st late unused after closes same sessions jobs numbers board failed stopped =
     serves-closed old new log event answer decision.Turned done n st turned-comes (sym (late.row past unused stop))
-    (nobody-meant o past e nobody late.unnamed) refl (late.brings decision.Turned) closes same
-    (λ q. ap (λ (m : Sessions). map.get nat_eq m q) sessions) (ap map.hash_map_len sessions) jobs numbers
+    (nobody-meant o past e nobody late.unnamed) refl (late.brings decision.Turned) closes same sessions jobs numbers
     (λ a p. board a p ∙ st.tables.holders a p ∙ nobody (V4 a) p ∙ sym (still a p)) failed stopped
   where
     o : Options

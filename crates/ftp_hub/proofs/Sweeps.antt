@@ -1,7 +1,5 @@
 -- The tables after a sweep of the failed logins, and after a scavenge of the holds.
 use Rattle.std.proofs.Common.{◌≡◌, refl, sym, ap, ◌∙◌, ℕ, List, [], ◌∷◌, Option, Some, None}
-use Rattle.std.specs.Prelude.{nat_eq}
-use Rattle.std.specs.HashMap as map
 use Rattle.ftp_hub.proofs.Common.{Action, Answer, Entry, EventKind, Hub, HubEvent, LoginKey, Options, Serves, Stands, V4, decide, entry, failures, failures_in, has, holder_at, past_of}
 use Rattle.std.proofs.lemmas.Option.{same_Some}
 use Rattle.ftp_lockout.specs.Failures.{Table, failures_of, swept}
@@ -21,10 +19,10 @@ use Rattle.ftp_hub.proofs.Failures.{unlocked}
 use Rattle.ftp_hub.proofs.Running.{running-none}
 
 swept-comes : Comes decision.Swept
-swept-comes = record { counts = refl; plain = refl; unopened = λ k. refl; no_grant = refl; keeps = refl; lives = refl; silent = λ k answer. refl; as_many = λ n. refl; unfinished = refl; kept = λ answer job. refl }
+swept-comes = record { passes = record { counts = refl; plain = refl; unopened = λ k. refl; no_grant = refl; keeps = refl; lives = refl; as_many = λ n. refl }; silent = λ k answer. refl; unfinished = refl; kept = λ answer job. refl }
 
 scavenged-comes : Comes decision.Scavenged
-scavenged-comes = record { counts = refl; plain = refl; unopened = λ k. refl; no_grant = refl; keeps = refl; lives = refl; silent = λ k answer. refl; as_many = λ n. refl; unfinished = refl; kept = λ answer job. refl }
+scavenged-comes = record { passes = record { counts = refl; plain = refl; unopened = λ k. refl; no_grant = refl; keeps = refl; lives = refl; as_many = λ n. refl }; silent = λ k answer. refl; unfinished = refl; kept = λ answer job. refl }
 
 -- nothing is held for a session that has ended, so a scavenge changes nothing
 pub serves-scavenged :
@@ -34,8 +32,7 @@ pub serves-scavenged :
 unfolding decide
 serves-scavenged hub log event answer done st is nothing =
     serves-nobody hub hub log event answer decision.Scavenged done st scavenged-comes (rw is refl) (rw is refl) nothing
-    (λ n. running-none decision.Scavenged done n refl nothing) refl (λ q. refl) refl refl
-    (λ q. rw is refl)
+    (λ n. running-none decision.Scavenged done n refl nothing) refl refl refl (λ q. rw is refl)
     (λ a p. st.tables.holders a p ∙ sym (holder-other hub.options (past_of log) (entry event answer decision.Scavenged done) (V4 a) p (rw is refl) (rw is refl) refl refl))
     (λ key. st.tables.failures key ∙ sym (failures-other hub.options (past_of log) (entry event answer decision.Scavenged done) key (ap tells_failures is)))
     refl
@@ -70,8 +67,7 @@ pub serves-swept :
 unfolding decide
 serves-swept old new log event answer done st is nothing same sessions jobs numbers board stopped failed =
     serves-nobody old new log event answer decision.Swept done st swept-comes (rw is refl) (rw is refl) nothing
-    (λ n. running-none decision.Swept done n refl nothing) same
-    (λ q. ap (λ m. map.get nat_eq m q) sessions) (ap map.hash_map_len sessions) jobs
+    (λ n. running-none decision.Swept done n refl nothing) same sessions jobs
     (λ q. rw is (ap (λ (x : Used). has x q) numbers))
     (λ a p.
     ap (λ (x : Board). holder_at x a p) board ∙ st.tables.holders a p

@@ -19,7 +19,7 @@ returns-in_default-clause-serves c log st =
     let unused : is_used (past_of log) arr.number ≡ false = sym (st.tables.numbers arr.number) ∙ c.requires.unused in
     serves-unheld c.args.self.now _ log c.args.event.now c.args.answer _ arr st c.requires.of_this_event unused c.requires.going
     (sym c.unregister_by_key.ensures.holder ∙ c.in_default.is)
-    (rw (c.close.ensures.actions, c.requires.ready.ready.actions) refl) refl (λ q. refl) refl refl c.put.ensures
+    (rw (c.close.ensures.actions, c.requires.ready.ready.actions) refl) refl refl refl c.put.ensures
     (λ a p. ap (λ (held : Held). finmap.get held (key a p)) c.unregister_by_key.ensures.held ∙ get-remove-key c.args.self.now.board.held a p arr.source arr.port)
     refl refl
 

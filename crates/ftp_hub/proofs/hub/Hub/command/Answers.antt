@@ -13,7 +13,7 @@ use Rattle.ftp_handlers.specs.Handlers.{is_abor, is_auth, is_command, is_port, i
 use Rattle.ftp_laws.proofs.Cases.{by_test}
 use Rattle.ftp_hub.specs.Stands.{stops_for, used_for}
 use Rattle.ftp_hub.proofs.Commands.{IsPlain, serves-unknown, serves-command, command-plain, command-unmoved, row-same}
-use Rattle.ftp_hub.proofs.Decisions.{Comes, comes-held, kept-unanswered}
+use Rattle.ftp_hub.proofs.Decisions.{Comes, comes-held, kept-unanswered, passes-live}
 use Rattle.ftp_hub.proofs.Ends.{transfer-comes, transfer-plain, transfer-row}
 use Rattle.ftp_hub.proofs.Failures.{failures-stay}
 use Rattle.ftp_hub.proofs.Moved.{jobs-kept, jobs-start, sessions-stay, tables-lent}
@@ -65,7 +65,7 @@ returns-then-is_transfer-clause-serves c log given st =
         moved = record {
           options = refl;
           session = c.queue.ensures.session few given ∙ ap (λ n. session_after c.args.event.now.at k given d n job v) (sym (comes.silent k given));
-          sessions = sessions-stay c.args.self.now.sessions _ d s c.queue.new.session comes.lives comes.as_many (lent.3 (rw there refl)).0 lent.2;
+          sessions = sessions-stay c.args.self.now.sessions _ d s c.queue.new.session (passes-live d comes.passes) comes.passes.as_many (lent.3 (rw there refl)).0 lent.2;
           jobs = jobs-start jobs c.queue.new.jobs o k given d _ s v comes.unfinished (comes.kept given) (c.queue.ensures.starts few) (c.queue.ensures.actions few given);
         };
         numbers = λ q. ap (λ (n : Option ℕ). is_number n q || has c.args.self.now.numbers q) (sym (transfer-number k d asked));

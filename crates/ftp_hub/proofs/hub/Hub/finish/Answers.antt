@@ -8,7 +8,6 @@ use Rattle.ftp_events.specs.declared.event.Answer.TheVariants.{Done}
 use Rattle.ftp_events.specs.declared.event.EventKind.TheVariants as kind
 use Rattle.ftp_events.specs.EndRows.{can_end}
 use Rattle.ftp_laws.proofs.RunningLemmas.{runs-started}
-use Rattle.ftp_hub.proofs.Moved.{Sessions}
 use Rattle.ftp_hub.proofs.Named.{few-counts}
 use Rattle.ftp_hub.proofs.Ends.{finish-due, finished-passes, serves-ended, serves-lost}
 use Rattle.ftp_hub.proofs.hub.Hub.finish.Goals as goal
@@ -29,10 +28,9 @@ returns-in-None-clause-serves c log st =
     (finish-due c.args.self.now log c.args.event.now c.args.outcome t job st told there known.0 known.1 known.2)
     (done ∙ rw told refl)
     (λ number queued l bare ran. rw bare refl)
-    refl (λ q. ap (λ (m : Sessions). map.get nat_eq m q) c.get_mut.follows.holds-at-none) (ap map.hash_map_len c.get_mut.follows.holds-at-none)
-    c.take.ensures.updates
+    refl c.get_mut.follows.holds-at-none c.take.ensures.updates
     (omega (arith, rw c.in-Some.is at c.take.ensures.len, ap (λ xs. running_after decision.Finished xs (map.hash_map_len c.args.self.now.jobs)) done))
-    (λ q. refl) (λ a p. refl) refl refl
+    refl refl refl refl
 
 -- a live session
 pub returns-in-Some-get_mut-clause-serves : goal.returns-in-Some-get_mut-clause-serves

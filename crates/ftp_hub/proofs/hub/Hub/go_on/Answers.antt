@@ -9,7 +9,7 @@ use Rattle.ftp_events.specs.declared.event.EventKind.TheVariants.{Piece}
 use Rattle.ftp_events.specs.EndRows.{can_move}
 use Rattle.ftp_events.specs.Slot.{raise}
 use Rattle.ftp_hub.proofs.Decisions.{changed-at}
-use Rattle.ftp_hub.proofs.Moved.{Sessions, jobs-kept, sessions-stay}
+use Rattle.ftp_hub.proofs.Moved.{jobs-kept, sessions-stay}
 use Rattle.ftp_hub.proofs.Running.{running-none}
 use Rattle.ftp_hub.proofs.Ends.{move-due, moved-passes, serves-lost, serves-told}
 use Rattle.ftp_hub.proofs.hub.Hub.go_on.Goals as goal
@@ -31,10 +31,10 @@ returns-in_default-get_mut-clause-serves c log st =
     (move-due c.args.self.now log c.args.event.now c.args.bytes t job st is there known.0 known.1 known.2)
     refl
     (λ number queued l bare ran. ap (option_map (raise c.args.bytes)) ran)
-    refl (λ q. ap (λ (m : Sessions). map.get nat_eq m q) c.get_mut-2.follows.holds-at-none) (ap map.hash_map_len c.get_mut-2.follows.holds-at-none)
+    refl c.get_mut-2.follows.holds-at-none
     (λ q. (lent.3 (rw there refl)).0 q)
     (lent.2 ∙ sym (running-none decision.Moved [] (map.hash_map_len jobs) refl refl))
-    (λ q. refl) (λ a p. refl) refl refl
+    refl refl refl refl
 
 -- a live session
 pub returns-in-Some-get_mut-clause-serves : goal.returns-in-Some-get_mut-clause-serves

@@ -50,7 +50,7 @@ returns-in-Header-Err-clause-serves c log st =
     (rw (c.in-Proxied.is, header, sym c.if-not-is_proxy.ensures, sym c.if-is_v6.ensures, unused, going) refl)
     (rw (unnamed, nowhere) refl) refl (rw c.in-Proxied.is refl)
     (rw (c.close.ensures.actions, c.requires.ready.ready.actions) refl)
-    refl (λ q. refl) refl refl c.put.ensures
+    refl refl refl c.put.ensures
     (λ a p. st.tables.holders a p ∙ sym (holder-other c.args.self.now.options (past_of log) (entry c.args.event.now c.args.answer fault (actions_in c.close.new.self)) (V4 a) p nowhere unnamed refl refl))
     refl refl
 
