@@ -27,7 +27,7 @@ use Rattle.ftp_hub.proofs.Failures.{failures-refused, said-refused}
 use Rattle.ftp_hub.proofs.Refusals.{serves-refusal}
 use Rattle.ftp_hub.proofs.Named.{few-counts, serves-named}
 use Rattle.ftp_hub.proofs.Decisions.{put-back, refusal-leaves, refusal-unstopped}
-use Rattle.ftp_hub.proofs.Moved.{Moved, MovedAlone}
+use Rattle.ftp_hub.proofs.Moved.{Moved, MovedAlone, session-back, tables-lent}
 use Rattle.ftp_hub.proofs.Running.{running-none}
 
 -- the end of a transfer, or a piece of it
@@ -78,6 +78,21 @@ unfolding decide
 serves-unknown old new log event answer done s st plain named none nothing tables =
     serves-refusal old new log event answer decision.UnknownNumber done st
     (sym (due-named old.options (past_of log) event.at event.kind answer s None plain named (sym (st.tables.sessions s) ∙ none))) refl nothing tables
+
+-- and so is what a live session is refused: it was lent, and is as it was
+pub serves-turned :
+    (old new : Hub) (log : List Entry) (event : HubEvent) (answer : Answer) (d : Decision) (done : List Action) (s : ℕ) (v : Session) →
+    Stands old log → is_end event.kind ≡ false → named_session event.kind ≡ Some s → map.get nat_eq old.sessions s ≡ Some v →
+    d ≡ command_row old.options (around old.options (past_of log) event.at event.kind v) event.kind v → is_refusal d ≡ true → done ≡ [] →
+    new.options ≡ old.options → ((q : ℕ) → map.get nat_eq new.sessions q ≡ cond (s == q) (Some v) (map.get nat_eq old.sessions q)) →
+    map.hash_map_len new.sessions ≡ map.hash_map_len old.sessions →
+    new.jobs ≡ old.jobs → new.numbers ≡ old.numbers → new.board ≡ old.board → new.failures ≡ old.failures → new.stopped ≡ old.stopped →
+    Serves old new log event answer d done
+unfolding decide
+serves-turned old new log event answer d done s v st plain named there row refused nothing options table len jobs numbers board failed stopped =
+    serves-refusal old new log event answer d done st
+    (row ∙ sym (due-named old.options (past_of log) event.at event.kind answer s (Some v) plain named (sym (st.tables.sessions s) ∙ there))) refused nothing
+    (tables-lent old new (past_of log) options (session-back old.sessions new.sessions s v there table) len jobs numbers board failed stopped st.tables)
 
 -- a job of the session that is named runs by the table as by the log
 pub at-work :

@@ -6,11 +6,10 @@ use Rattle.ftp_events.specs.declared.decision.Decision.TheVariants as decision
 use Rattle.ftp_events.specs.declared.event.EventKind.TheVariants.{DataIn}
 use Rattle.ftp_events.specs.Slot.{is_waiting}
 use Rattle.ftp_hub.specs.Arrivals.{arrival_of}
-use Rattle.ftp_hub.proofs.Common.{Decision, EventKind, Options, Running, Session, Starts, decide, is_used, new_number, past_of, session, session_acts, session_after, starting}
-use Rattle.ftp_hub.proofs.Commands.{due-named, serves-unknown}
+use Rattle.ftp_hub.proofs.Common.{Decision, EventKind, Options, Running, Session, Starts, is_used, new_number, past_of, session_acts, session_after, starting}
+use Rattle.ftp_hub.proofs.Commands.{serves-turned, serves-unknown}
 use Rattle.ftp_hub.proofs.DataLinks.{acts-alike, after-alike, serves-accepted, starting-alike}
-use Rattle.ftp_hub.proofs.Moved.{Sessions, session-back, tables-lent}
-use Rattle.ftp_hub.proofs.Refusals.{serves-refusal}
+use Rattle.ftp_hub.proofs.Moved.{Sessions, tables-lent}
 use Rattle.ftp_hub.proofs.hub.Hub.accepted.Goals as goal
 
 -- a session that is not live
@@ -22,36 +21,24 @@ returns-in_default-get_mut-clause-serves c log given st =
 
 -- where sessions share the ports, no session has a listener of its own
 pub returns-then-not-is_legacy-clause-serves : goal.returns-then-not-is_legacy-clause-serves
-unfolding decide
 returns-then-not-is_legacy-clause-serves c log given st =
-    let hub = c.args.self.now in
     let v : Session = c.in-Some.session.now in
-    let s : ℕ = c.in-Accepted.owner in
-    let there : map.get nat_eq hub.sessions s ≡ Some v = sym c.in-Some.ensures.value in
-    let known : session hub.options (past_of log) s ≡ Some v = sym (st.tables.sessions s) ∙ there in
+    let there : map.get nat_eq c.args.self.now.sessions c.in-Accepted.owner ≡ Some v = sym c.in-Some.ensures.value in
     let lent = c.get_mut.follows.holds v in
-    serves-refusal hub _ log c.args.event.now given decision.Misplaced _ st
-    (sym (due-named hub.options (past_of log) c.args.event.now.at c.args.event.now.kind given s (Some v) (rw c.in-Accepted.is refl) (rw c.in-Accepted.is refl) known
-    ∙ rw (c.in-Accepted.is, sym c.if-not-is_legacy.ensures) refl))
-    refl c.requires.ready.ready.actions
-    (tables-lent hub _ (past_of log) refl (session-back hub.sessions (c.get_mut.follows.lender v) s v there (lent.3 (rw there refl)).0) lent.2 refl refl refl refl refl st.tables)
+    serves-turned c.args.self.now _ log c.args.event.now given decision.Misplaced _ c.in-Accepted.owner v st (rw c.in-Accepted.is refl) (rw c.in-Accepted.is refl) there
+    (rw (c.in-Accepted.is, sym c.if-not-is_legacy.ensures) refl) refl c.requires.ready.ready.actions
+    refl (λ q. (lent.3 (rw there refl)).0 q) lent.2 refl refl refl refl refl
 
 -- a number that was used
 pub returns-then-has-clause-serves : goal.returns-then-has-clause-serves
-unfolding decide
 returns-then-has-clause-serves c log given st =
-    let hub = c.args.self.now in
     let v : Session = c.in-Some.session.now in
-    let s : ℕ = c.in-Accepted.owner in
-    let there : map.get nat_eq hub.sessions s ≡ Some v = sym c.in-Some.ensures.value in
-    let known : session hub.options (past_of log) s ≡ Some v = sym (st.tables.sessions s) ∙ there in
     let used : is_used (past_of log) c.in-Accepted.number ≡ true = sym (st.tables.numbers c.in-Accepted.number) ∙ sym c.has.ensures ∙ c.if-has.true in
+    let there : map.get nat_eq c.args.self.now.sessions c.in-Accepted.owner ≡ Some v = sym c.in-Some.ensures.value in
     let lent = c.get_mut.follows.holds v in
-    serves-refusal hub _ log c.args.event.now given decision.UsedNumber _ st
-    (sym (due-named hub.options (past_of log) c.args.event.now.at c.args.event.now.kind given s (Some v) (rw c.in-Accepted.is refl) (rw c.in-Accepted.is refl) known
-    ∙ rw (c.in-Accepted.is, sym c.if-not-is_legacy.ensures, used) refl))
-    refl c.requires.ready.ready.actions
-    (tables-lent hub _ (past_of log) refl (session-back hub.sessions (c.get_mut.follows.lender v) s v there (lent.3 (rw there refl)).0) lent.2 refl refl refl refl refl st.tables)
+    serves-turned c.args.self.now _ log c.args.event.now given decision.UsedNumber _ c.in-Accepted.owner v st (rw c.in-Accepted.is refl) (rw c.in-Accepted.is refl) there
+    (rw (c.in-Accepted.is, sym c.if-not-is_legacy.ensures, used) refl) refl c.requires.ready.ready.actions
+    refl (λ q. (lent.3 (rw there refl)).0 q) lent.2 refl refl refl refl refl
 
 -- the connection goes to the session, or is turned away
 pub returns-clause-serves : goal.returns-clause-serves
