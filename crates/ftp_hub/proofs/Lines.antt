@@ -1,8 +1,9 @@
 -- Lines by their numbers, read from the last one on.
-use Rattle.std.proofs.Common.{◌≡◌, refl, sym, ap, ◌∙◌, subst, ℕ, ◌+◌, ◌<◌, Bool, true, false, cond, List, [], ◌∷◌, ◌++◌, length, map, Option, Some, None, eqb-true, arith}
-use Rattle.std.specs.Prelude.{◌==◌, is_some}
+use Rattle.std.proofs.Common.{BuildHasherDefault, FoldHasher, ◌≡◌, refl, sym, ap, ◌∙◌, subst, ℕ, ◌+◌, ◌<◌, Bool, true, false, cond, List, [], ◌∷◌, ◌++◌, length, map, Option, Some, None, eqb-true, arith}
+use Rattle.std.specs.Prelude.{◌==◌, is_some, nat_eq}
 use Rattle.std.specs.List.{AllByRecursion}
 use Rattle.std.specs.Option.{option_map, option_or}
+use Rattle.std.specs.HashMap as table
 use Rattle.ftp_laws.specs.Census.{IsAscending}
 use Rattle.ftp_hub.specs.State.{line_of}
 
@@ -32,18 +33,34 @@ put-step {A = A} {B = B} number f lines line s now =
     go None true = refl
     go None false = refl
 
--- values that are changed from the last line on are in the end as with all: an earlier line has the last word
-pub change-step :
-    {A B : Type 0} (number : A → ℕ) (f : Option A → B → B) (all lines : List A) (line : A) (s : ℕ) (now next done : Option B) →
-    ((v : B) → f None v ≡ v) → ((a b : A) (v : B) → f (Some a) (f (Some b) v) ≡ f (Some a) v) →
-    all ≡ lines ++ line ∷ [] → next ≡ cond (number line == s) (option_map (f (Some line)) now) now →
-    option_map (f (line_of number all s)) now ≡ done → option_map (f (line_of number lines s)) next ≡ done
-change-step {A = A} {B = B} number f all lines line s now next done none again last told so_far =
-    ap (option_map (f (line_of number lines s))) told
-    ∙ go (line_of number lines s) (number line == s) now
-    ∙ ap (λ x. option_map (f x) now) (sym (line-last number lines line s))
-    ∙ ap (λ (ls : List A). option_map (f (line_of number ls s)) now) (sym last)
-    ∙ so_far
+-- what is kept by number
+abbrev pub Table : Type 0 → Type 0
+Table B = table.HashMap ℕ B (BuildHasherDefault FoldHasher)
+
+-- with the lines that are left, the values are as with all
+abbrev pub AreLeft : {A B : Type 0} → (A → ℕ) → (Option A → B → B) → List A → Table B → List A → Table B → Type 0
+AreLeft number f left now all before = record {
+  values : (s : ℕ) → option_map (f (line_of number left s)) (table.get nat_eq now s) ≡ option_map (f (line_of number all s)) (table.get nat_eq before s);
+  len : table.hash_map_len now ≡ table.hash_map_len before;
+}
+
+-- with one line more they are as before: an earlier line has the last word
+pub left-step :
+    {A B : Type 0} (number : A → ℕ) (f : Option A → B → B) (behind left all : List A) (line : A) (now next before : Table B) →
+    ((v : B) → f None v ≡ v) → ((a b : A) (v : B) → f (Some a) (f (Some b) v) ≡ f (Some a) v) → behind ≡ left ++ line ∷ [] →
+    ((s : ℕ) → table.get nat_eq next s ≡ cond (number line == s) (option_map (f (Some line)) (table.get nat_eq now s)) (table.get nat_eq now s)) →
+    table.hash_map_len next ≡ table.hash_map_len now →
+    AreLeft number f behind now all before → AreLeft number f left next all before
+left-step {A = A} {B = B} number f behind left all line now next before none again last told len so_far =
+    record {
+      values = λ s.
+          ap (option_map (f (line_of number left s))) (told s)
+          ∙ go (line_of number left s) (number line == s) (table.get nat_eq now s)
+          ∙ ap (λ x. option_map (f x) (table.get nat_eq now s)) (sym (line-last number left line s))
+          ∙ ap (λ (ls : List A). option_map (f (line_of number ls s)) (table.get nat_eq now s)) (sym last)
+          ∙ so_far.values s;
+      len = len ∙ so_far.len;
+    }
   where
     go : (x : Option A) (b : Bool) (v : Option B) → option_map (f x) (cond b (option_map (f (Some line)) v) v) ≡ option_map (f (option_or x (cond b (Some line) None))) v
     go x true None = refl

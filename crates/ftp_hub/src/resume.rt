@@ -19,7 +19,7 @@ use crate::records::failures_by;
 use crate::state::{
     HubState, JobLine, LoginState, QueuedLine, SessionLine, SlotKind, SlotLine, StateError,
 };
-use crate::tables::{put, take};
+use crate::tables::put;
 use ftp_events::{Counters, Login, Opening, Pending, Running, Session, Slot};
 use ftp_handlers::copy_user;
 use ftp_options::Options;
@@ -107,34 +107,25 @@ pub(crate) fn open_all(
 }
 
 // Puts the slot of a line into its session.
-fn fill_slot(sessions: &mut HashMap<u64, Session>, line: SlotLine) -> Result<(), AllocError>
-    ensures sessions { OnOk result ((s : ℕ) → map.get nat_eq sessions.new s ≡ (if line.session == s then option_map (with_slot (Some line)) (map.get nat_eq sessions.old s) else map.get nat_eq sessions.old s)) }
-    ensures len { OnOk result (map.hash_map_len sessions.new ≡ map.hash_map_len sessions.old) }
+fn fill_slot(sessions: &mut HashMap<u64, Session>, line: SlotLine)
+    ensures sessions { (s : ℕ) → map.get nat_eq sessions.new s ≡ (if line.session == s then option_map (with_slot (Some line)) (map.get nat_eq sessions.old s) else map.get nat_eq sessions.old s) }
+    ensures len { map.hash_map_len sessions.new ≡ map.hash_map_len sessions.old }
 {
-    let Some(session) = take(sessions, line.session) else {
-        return Ok(());
-    };
-    let mut session = session;
-    session.slot = line.what.slot();
-    session.slot_at = line.at;
-    sessions.reserve(1)?;
-    put(sessions, line.session, session);
-    Ok(())
+    if let Some(session) = sessions.get_mut(&line.session) {
+        session.slot = line.what.slot();
+        session.slot_at = line.at;
+    }
 }
 
 // Puts the slots of these lines into their sessions.
-pub(crate) fn fill_slots(
-    sessions: &mut HashMap<u64, Session>,
-    lines: Vec<SlotLine>,
-) -> Result<(), AllocError>
-    ensures sessions { OnOk result ((s : ℕ) → map.get nat_eq sessions.new s ≡ option_map (with_slot (slot_line lines.items s)) (map.get nat_eq sessions.old s)) }
-    ensures len { OnOk result (map.hash_map_len sessions.new ≡ map.hash_map_len sessions.old) }
+pub(crate) fn fill_slots(sessions: &mut HashMap<u64, Session>, lines: Vec<SlotLine>)
+    ensures sessions { (s : ℕ) → map.get nat_eq sessions.new s ≡ option_map (with_slot (slot_line lines.items s)) (map.get nat_eq sessions.old s) }
+    ensures len { map.hash_map_len sessions.new ≡ map.hash_map_len sessions.old }
 {
     let mut lines = lines;
     while let Some(line) = lines.pop() {
-        fill_slot(sessions, line)?;
+        fill_slot(sessions, line);
     }
-    Ok(())
 }
 
 // The transfer of a line, for the user of its session.
@@ -163,13 +154,9 @@ fn queue_one(
     ensures len { OnOk result (map.hash_map_len sessions.new ≡ map.hash_map_len sessions.old) }
 {
     let number = line.session;
-    let Some(session) = take(sessions, number) else {
-        return Ok(());
-    };
-    let mut session = session;
-    session.pending = Some(waiting(alloc, line, &session)?);
-    sessions.reserve(1)?;
-    put(sessions, number, session);
+    if let Some(session) = sessions.get_mut(&number) {
+        session.pending = Some(waiting(alloc, line, session)?);
+    }
     Ok(())
 }
 
@@ -226,7 +213,7 @@ pub(crate) fn sessions_of(
     ensures len { IfOk result (λ table. map.hash_map_len table ≡ length sessions.items) }
 {
     let mut table = open_all(alloc, sessions)?;
-    fill_slots(&mut table, slots)?;
+    fill_slots(&mut table, slots);
     queue_all(alloc, &mut table, queued)?;
     Ok(table)
 }
