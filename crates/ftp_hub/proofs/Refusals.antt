@@ -1,5 +1,5 @@
 -- Refused events, and tables that give the same answers.
-use Rattle.std.proofs.Common.{◌≡◌, sym, ap, ◌∙◌, subst, true, List, [], arith}
+use Rattle.std.proofs.Common.{◌≡◌, sym, ap, ◌∙◌, subst, true, List, [], ◌∷◌, arith}
 use Rattle.ftp_hub.proofs.Common.{Action, Answer, Decision, Entry, Hub, HubEvent, IsActed, IsRight, Options, Serves, Stands, Tables, V4, acts, decide, entry, failures, holder, is_refusal, past_of, running_job, session}
 use Rattle.ftp_events.specs.declared.counters.Counters.{Counters}
 use Rattle.ftp_events.specs.Counts.{Counted}
@@ -59,6 +59,13 @@ stands-same old new log same st =
       tables = tables-same old new (past_of log) same.head.options same.tables st.tables;
       counted = omega (arith, same.head.count, st.counted);
     }
+
+-- so does one with whose entry the actions were taken out of the room
+pub stands-taken :
+    (left new : Hub) (log : List Entry) (event : HubEvent) (answer : Answer) (d : Decision) (done taken : List Action) →
+    SameAnswers left new → taken ≡ done → Stands left (entry event answer d done ∷ log) → Stands new (entry event answer d taken ∷ log)
+stands-taken left new log event answer d done taken same is st =
+    stands-same left new (entry event answer d taken ∷ log) same (subst (λ (xs : List Action). Stands left (entry event answer d xs ∷ log)) (sym is) st)
 
 -- hubs that give the same answers have counted the same
 pub counted-same : (old new : Hub) (past : List Entry) → SameAnswers old new → Counted old.options past old.counters → Counted new.options past new.counters

@@ -1,18 +1,17 @@
-use Rattle.std.proofs.Common.{◌≡◌, refl, sym, subst, ◌∷◌, List}
-use Rattle.ftp_hub.proofs.Common.{Action, Decision, Hub, Stands, entry}
+use Rattle.std.proofs.Common.{◌≡◌, refl}
+use Rattle.ftp_hub.proofs.Common.{Hub}
 use Rattle.ftp_handlers.specs.Rooms.{actions_in}
 use Rattle.ftp_hub.proofs.Moved.{same-lent}
-use Rattle.ftp_hub.proofs.Refusals.{stands-same}
+use Rattle.ftp_hub.proofs.Refusals.{stands-taken}
 use Rattle.ftp_hub.proofs.hub.Hub.step.Goals as goal
 
 -- the hub stands for the longer log, whatever it keeps for the next event
 pub returns-clause-stands : goal.returns-clause-stands
 returns-clause-stands c log st =
     let h : Hub = c.enter-decision.new.self in
-    let d : Decision = c.enter-decision.result in
     let taken : c.take_actions-actions.result ≡ actions_in c.enter-decision.new.room = cc in
-    stands-same h _ _ (record { head = record { options = refl; count = refl; counters = refl }; tables = same-lent h _ (λ q. refl) refl refl refl refl refl refl })
-    (subst (λ (xs : List Action). Stands h (entry c.args.event c.args.answer d xs ∷ log)) (sym taken) (c.enter-decision.ensures.stands log st))
+    stands-taken h _ log c.args.event c.args.answer c.enter-decision.result (actions_in c.enter-decision.new.room) c.take_actions-actions.result
+    (record { head = record { options = refl; count = refl; counters = refl }; tables = same-lent h _ (λ q. refl) refl refl refl refl refl refl }) taken (c.enter-decision.ensures.stands log st)
 
 -- a refused event changes no table
 pub returns-clause-refused : goal.returns-clause-refused

@@ -1,23 +1,22 @@
 use Rattle.std.proofs.Common.{◌≡◌, refl, sym, ap, ◌∙◌, subst, ◌∷◌, List, Option}
 use Rattle.std.specs.Option.{option_and_then, option_map}
-use Rattle.ftp_hub.proofs.Common.{Action, Decision, Entry, Hub, IsActed, IsRight, Options, Pending, Stands, entry, options_of, past_of}
+use Rattle.ftp_hub.proofs.Common.{Action, Entry, Hub, IsActed, IsRight, Options, Pending, entry, options_of, past_of}
 use Rattle.ftp_hub.specs.declared.twin.Copies.{Copies}
 use Rattle.ftp_handlers.specs.Rooms.{actions_in}
 use Rattle.ftp_hub.specs.Stands.{pending_for}
 use Rattle.ftp_hub.specs.Twin.{can_start, first_start, job_at, started_job}
 use Rattle.ftp_hub.proofs.Twins.{job-is, start-either}
 use Rattle.ftp_hub.proofs.Moved.{same-lent}
-use Rattle.ftp_hub.proofs.Refusals.{stands-same}
+use Rattle.ftp_hub.proofs.Refusals.{stands-taken}
 use Rattle.ftp_hub.proofs.hub.Hub.step_twin.Goals as goal
 
 -- the hub stands for the longer log, whatever it keeps for the next event
 pub returns-clause-stands : goal.returns-clause-stands
 returns-clause-stands c log st =
     let h : Hub = c.enter-decision.new.self in
-    let d : Decision = c.enter-decision.result in
     let taken : c.take_twin-actions.result.0 ≡ actions_in c.enter-decision.new.room = cc in
-    stands-same h _ _ (record { head = record { options = refl; count = refl; counters = refl }; tables = same-lent h _ (λ q. refl) refl refl refl refl refl refl })
-    (subst (λ (xs : List Action). Stands h (entry c.args.event c.args.answer d xs ∷ log)) (sym taken) (c.enter-decision.ensures.stands log st))
+    stands-taken h _ log c.args.event c.args.answer c.enter-decision.result (actions_in c.enter-decision.new.room) c.take_twin-actions.result.0
+    (record { head = record { options = refl; count = refl; counters = refl }; tables = same-lent h _ (λ q. refl) refl refl refl refl refl refl }) taken (c.enter-decision.ensures.stands log st)
 
 -- a refused event changes no table
 pub returns-clause-refused : goal.returns-clause-refused
