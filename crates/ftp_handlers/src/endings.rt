@@ -41,7 +41,7 @@ pub fn ending(
     let args = &event.kind;
     match args {
         EventKind::Closed { .. } => closed::handle(session, args, board, room, options),
-        EventKind::Quit { .. } => quit::handle(session, args, board, room, options),
+        EventKind::Quit { .. } => quit::handle(session, args, board, room, event.at, options),
         EventKind::IdleTick { session: number } => {
             say_goodbye(
                 session,

@@ -30,6 +30,7 @@ pub fn handle(
     args: &EventKind,
     board: &mut Switchboard,
     room: &mut Room,
+    at: u64,
     options: &Options,
 ) -> Decision
     requires of_this_event { IsTrue (is_quit args.now) }
