@@ -42,6 +42,7 @@ pub mod StateLineLemmas
 pub mod StateFeedLemmas
 pub mod TextLemmas
 pub mod GrammarLemmas
+pub mod KindLemmas
 pub mod WalkLemmas
 pub mod WritingLemmas
 pub mod ListLemmas

@@ -17,7 +17,8 @@ use Rattle.ftp_text.specs.Grammar.{AreStateLines}
 use Rattle.ftp_text.specs.ListOrder.{AreListsInOrder}
 use Rattle.ftp_text.specs.Spelling.{IsStateLine, is_from_root}
 use Rattle.ftp_text.proofs.ListLemmas.{HasLists, has-lists, lists-in-order}
-use Rattle.ftp_text.proofs.WalkLemmas.{records_in, sessions_in, queued_in, jobs_in}
+use Rattle.ftp_text.proofs.KindLemmas.{said_in}
+use Rattle.ftp_text.proofs.KindLemmas as kind
 
 -- a path that begins with a slash
 absolute : (path : List ℕ) → is_from_root path ≡ true → IsAbsolute path
@@ -26,22 +27,22 @@ absolute (b ∷ path) h = h
 
 -- ---- the lines of each kind
 
-sessions-absolute : (lines : List StateLine) → AllByRecursion IsStateLine lines → AllByRecursion (λ (l : SessionLine). IsAbsolute l.cwd) (sessions_in lines)
+sessions-absolute : (lines : List StateLine) → AllByRecursion IsStateLine lines → AllByRecursion (λ (l : SessionLine). IsAbsolute l.cwd) (said_in kind.Session lines)
 sessions-absolute [] fit = tt
 sessions-absolute (says.Session s ∷ lines) fit = (absolute s.cwd fit.0.cwd.1, sessions-absolute lines fit.1)
 sessions-absolute (l ∷ lines) fit = sessions-absolute lines fit.1
 
-queued-absolute : (lines : List StateLine) → AllByRecursion IsStateLine lines → AllByRecursion (λ (q : QueuedLine). IsAbsolute q.path) (queued_in lines)
+queued-absolute : (lines : List StateLine) → AllByRecursion IsStateLine lines → AllByRecursion (λ (q : QueuedLine). IsAbsolute q.path) (said_in kind.Queued lines)
 queued-absolute [] fit = tt
 queued-absolute (says.Queued q ∷ lines) fit = (absolute q.path fit.0.path.1, queued-absolute lines fit.1)
 queued-absolute (l ∷ lines) fit = queued-absolute lines fit.1
 
-jobs-absolute : (lines : List StateLine) → AllByRecursion IsStateLine lines → AllByRecursion (λ (j : JobLine). IsAbsolute j.job.path) (jobs_in lines)
+jobs-absolute : (lines : List StateLine) → AllByRecursion IsStateLine lines → AllByRecursion (λ (j : JobLine). IsAbsolute j.job.path) (said_in kind.Job lines)
 jobs-absolute [] fit = tt
 jobs-absolute (says.Job j ∷ lines) fit = (absolute j.job.path fit.0.path.1, jobs-absolute lines fit.1)
 jobs-absolute (l ∷ lines) fit = jobs-absolute lines fit.1
 
-records-keyed : (lines : List StateLine) → AllByRecursion IsStateLine lines → AllByRecursion (λ (r : RecordLine). is_keyed r ≡ true) (records_in lines)
+records-keyed : (lines : List StateLine) → AllByRecursion IsStateLine lines → AllByRecursion (λ (r : RecordLine). is_keyed r ≡ true) (said_in kind.Record lines)
 records-keyed [] fit = tt
 records-keyed (says.Record r ∷ lines) fit = (fit.0.4, records-keyed lines fit.1)
 records-keyed (l ∷ lines) fit = records-keyed lines fit.1
@@ -60,7 +61,7 @@ lines-form x lines is =
     record {
       used = order.used;
       records = record {
-        keyed = subst (AllByRecursion (λ (r : RecordLine). is_keyed r ≡ true)) h.records (records-keyed h.lines h.fit);
+        keyed = subst (AllByRecursion (λ (r : RecordLine). is_keyed r ≡ true)) (h.lists kind.Record) (records-keyed h.lines h.fit);
         in_order = subst (IsStrictlySortedBy key_cmp) (sym (keys-are x.records)) order.records;
       };
       sessions = record {
@@ -69,11 +70,11 @@ lines-form x lines is =
         queued_rise = order.queued;
         live = order.live;
         placed = order.placed;
-        absolute = subst (AllByRecursion (λ (l : SessionLine). IsAbsolute l.cwd)) h.sessions (sessions-absolute h.lines h.fit);
-        paths = subst (AllByRecursion (λ (q : QueuedLine). IsAbsolute q.path)) h.queued (queued-absolute h.lines h.fit);
+        absolute = subst (AllByRecursion (λ (l : SessionLine). IsAbsolute l.cwd)) (h.lists kind.Session) (sessions-absolute h.lines h.fit);
+        paths = subst (AllByRecursion (λ (q : QueuedLine). IsAbsolute q.path)) (h.lists kind.Queued) (queued-absolute h.lines h.fit);
       };
       jobs = record {
         in_order = order.jobs;
-        paths = subst (AllByRecursion (λ (j : JobLine). IsAbsolute j.job.path)) h.jobs (jobs-absolute h.lines h.fit);
+        paths = subst (AllByRecursion (λ (j : JobLine). IsAbsolute j.job.path)) (h.lists kind.Job) (jobs-absolute h.lines h.fit);
       };
     }
