@@ -12,20 +12,30 @@ pub record ReadsLines {V : Type 0} (HasLine : List ℕ → V → Type 0) (read :
   pub takes : (line : List ℕ) (x : V) → read line ≡ Some x → HasLine line x
   pub again : (line : List ℕ) (x : V) → HasLine line x → read line ≡ Some x
 
-pub is_found : {V : Type 0} {HasLine : List ℕ → V → Type 0} {read : List ℕ → Option V} → ReadsLines HasLine read →
+is_found : {V : Type 0} {HasLine : List ℕ → V → Type 0} {read : List ℕ → Option V} → ReadsLines HasLine read →
     (line : List ℕ) (r : Result V LineFault) → Gives (λ x. x) r (read line) → IfOk r (λ x. HasLine line x)
 is_found reads line (Ok x) given = reads.takes line x given
 is_found reads line (Err f) given = tt
 
-pub is_bad : {V : Type 0} {HasLine : List ℕ → V → Type 0} {read : List ℕ → Option V} → ReadsLines HasLine read →
+is_bad : {V : Type 0} {HasLine : List ℕ → V → Type 0} {read : List ℕ → Option V} → ReadsLines HasLine read →
     (line : List ℕ) (r : Result V LineFault) → Gives (λ x. x) r (read line) → IsErrOf r fault.Bad → (x : V) → HasLine line x → ⊥
 is_bad reads line (Ok y) given h x has = cc
 is_bad reads line (Err fault.Memory) given h x has = cc
 is_bad reads line (Err fault.Bad) given h x has = none-some x (sym given ∙ reads.again line x has)
 
-pub is_only : {V : Type 0} {HasLine : List ℕ → V → Type 0} {read : List ℕ → Option V} → ReadsLines HasLine read →
+is_only : {V : Type 0} {HasLine : List ℕ → V → Type 0} {read : List ℕ → Option V} → ReadsLines HasLine read →
     (line : List ℕ) (r : Result V LineFault) → Gives (λ x. x) r (read line) → (x : V) → HasLine line x → Gives (λ x. x) r (Some x)
 is_only reads line r given x has = subst (λ f. Gives (λ y. y) r f) (reads.again line x has) given
+
+-- what is returned of a line has this line, and what has the line is returned
+pub record Returns {V : Type 0} (HasLine : List ℕ → V → Type 0) (line : List ℕ) (r : Result V LineFault) : Type 0 where
+  pub found : IfOk r (λ x. HasLine line x)
+  pub bad : IsErrOf r fault.Bad → (x : V) → HasLine line x → ⊥
+  pub only : (x : V) → HasLine line x → Gives (λ y. y) r (Some x)
+
+pub returned : {V : Type 0} {HasLine : List ℕ → V → Type 0} {read : List ℕ → Option V} → ReadsLines HasLine read →
+    (line : List ℕ) (r : Result V LineFault) → Gives (λ x. x) r (read line) → Returns HasLine line r
+returned reads line r given = record { found = is_found reads line r given; bad = is_bad reads line r given; only = is_only reads line r given }
 
 -- no line has two values
 pub is_one : {V : Type 0} {HasLine : List ℕ → V → Type 0} {read : List ℕ → Option V} → ReadsLines HasLine read →
