@@ -221,13 +221,7 @@ pub fn put_hex_bytes(out: &mut Vec<u8>, bytes: &[u8]) -> Result<(), AllocError>
 pub fn put_optional_dotted(out: &mut Vec<u8>, ip: Option<u32>) -> Result<(), AllocError>
     ensures { OnOk result (out.new.items ≡ out.old.items ++ optional dotted ip) }
 {
-    match ip {
-        None => put(out, b" -"),
-        Some(ip) => {
-            put_byte(out, b' ')?;
-            put_dotted(out, ip)
-        }
-    }
+    put_optional_ip(out, ip.map(IpAddr::V4))
 }
 
 /// Writes a number, or a hyphen for none.
