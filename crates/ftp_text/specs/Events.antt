@@ -113,6 +113,14 @@ told (kind.IdleTick s) = say word.Idle s
 told kind.Scavenge = say word.Scavenge
 told kind.Shutdown = say word.Shutdown
 
+-- the line says where a connection is from
+abbrev pub is_connection : EventKind → Bool
+is_connection (kind.Connect s raw local trace) = true
+is_connection (kind.Proxied n raw trace) = true
+is_connection (kind.DataIn n raw port) = true
+is_connection (kind.Accepted s n raw) = true
+is_connection _ = false
+
 -- the line says no more than a session behind the word
 abbrev pub is_short : EventKind → Bool
 is_short (kind.Pass s) = true

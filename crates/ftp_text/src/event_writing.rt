@@ -1,10 +1,10 @@
 //! Writing the lines of events.
 
-ghost use Rattle.std.specs.Prelude.{◌≡◌, ◌++◌, true, OnOk};
+ghost use Rattle.std.specs.Prelude.{◌≡◌, ◌++◌, false, true, OnOk};
 ghost use Rattle.std.specs.Option.{option_copied};
 ghost use Rattle.ftp_events.specs.declared.event.EventKind.TheVariants as kind;
 ghost use Rattle.ftp_text.specs.Fields.{number, field, ticket, escape, optional_text};
-ghost use Rattle.ftp_text.specs.Events.{is_short, word_field, kind_fields, event_line};
+ghost use Rattle.ftp_text.specs.Events.{is_connection, is_short, word_field, kind_fields, event_line};
 
 use crate::event_word::EventWord;
 use crate::message::put_message;
@@ -13,7 +13,7 @@ use crate::writing::{
     put_optional_number, put_optional_port, put_optional_text, put_refusal, put_text_field,
     put_ticket,
 };
-use ftp_base::{AuthAnswer, Bytes, ControlChanMsg, DataChanCmd, ErrorKind, SocketAddr};
+use ftp_base::{Bytes, DataChanCmd, ErrorKind};
 use ftp_events::{EventKind, HubEvent};
 use ftp_transfer::Ticket;
 use std::alloc::AllocError;
@@ -39,16 +39,46 @@ fn put_kind(out: &mut Vec<u8>, kind: &EventKind) -> Result<(), AllocError>
             raw,
             local,
             trace,
-        } => put_connect(out, *session, *raw, *local, *trace),
-        EventKind::Proxied { number, raw, trace } => put_proxied(out, *number, *raw, *trace),
-        EventKind::DataIn { number, raw, port } => put_data_in(out, *number, *raw, *port),
+        } => {
+            put_numbered(out, EventWord::Connect, *session)?;
+            put_address(out, *raw)?;
+            put_address(out, *local)?;
+            put_number(out, *trace)
+        }
+        EventKind::Proxied { number, raw, trace } => {
+            put_numbered(out, EventWord::Proxied, *number)?;
+            put_address(out, *raw)?;
+            put_number(out, *trace)
+        }
+        EventKind::DataIn { number, raw, port } => {
+            put_numbered(out, EventWord::Data, *number)?;
+            put_address(out, *raw)?;
+            put_number(out, u64::from(*port))
+        }
         EventKind::Accepted {
             session,
             number,
             raw,
-        } => put_accepted(out, *session, *number, *raw),
+        } => {
+            put_numbered(out, EventWord::Accepted, *session)?;
+            put_number(out, *number)?;
+            put_address(out, *raw)
+        }
+        _ => put_command(out, kind),
+    }
+}
+
+// The line of an event that brings no connection.
+fn put_command(out: &mut Vec<u8>, kind: &EventKind) -> Result<(), AllocError>
+    requires { is_connection kind.now ≡ false }
+    ensures { OnOk result (out.new.items ≡ out.old.items ++ kind_fields kind.now) }
+{
+    match kind {
         EventKind::User { session, name } => put_named(out, EventWord::User, *session, name),
-        EventKind::AuthDone { session, answer } => put_auth(out, *session, *answer),
+        EventKind::AuthDone { session, answer } => {
+            put_numbered(out, EventWord::Auth, *session)?;
+            put_answer(out, *answer)
+        }
         EventKind::Pasv {
             session,
             word,
@@ -61,8 +91,14 @@ fn put_kind(out: &mut Vec<u8>, kind: &EventKind) -> Result<(), AllocError>
             number,
         } => put_port(out, *session, text, *number),
         EventKind::Transfer { session, command } => put_transfer(out, *session, command),
-        EventKind::Stou { session, word } => put_stou(out, *session, *word),
-        EventKind::Rest { session, offset } => put_rest(out, *session, *offset),
+        EventKind::Stou { session, word } => {
+            put_numbered(out, EventWord::Stou, *session)?;
+            put_hex_word(out, *word)
+        }
+        EventKind::Rest { session, offset } => {
+            put_numbered(out, EventWord::Rest, *session)?;
+            put_number(out, *offset)
+        }
         EventKind::Cwd {
             session,
             path,
@@ -70,7 +106,10 @@ fn put_kind(out: &mut Vec<u8>, kind: &EventKind) -> Result<(), AllocError>
         } => put_cwd(out, *session, path, *refusal),
         EventKind::End { ticket } => put_ticketed(out, EventWord::End, *ticket),
         EventKind::Piece { ticket } => put_ticketed(out, EventWord::Piece, *ticket),
-        EventKind::Internal { session, message } => put_internal(out, *session, message),
+        EventKind::Internal { session, message } => {
+            put_numbered(out, EventWord::Internal, *session)?;
+            put_message(out, message)
+        }
         _ => put_short(out, kind),
     }
 }
@@ -92,62 +131,6 @@ fn put_short(out: &mut Vec<u8>, kind: &EventKind) -> Result<(), AllocError>
         EventKind::Shutdown => put_field(out, EventWord::Shutdown.text()),
         _ => unreachable!(),
     }
-}
-
-fn put_connect(
-    out: &mut Vec<u8>,
-    session: u64,
-    raw: SocketAddr,
-    local: SocketAddr,
-    trace: u64,
-) -> Result<(), AllocError>
-    ensures { OnOk result (out.new.items ≡ out.old.items ++ kind_fields (kind.Connect session raw local trace)) }
-{
-    put_numbered(out, EventWord::Connect, session)?;
-    put_address(out, raw)?;
-    put_address(out, local)?;
-    put_number(out, trace)
-}
-
-fn put_proxied(
-    out: &mut Vec<u8>,
-    number: u64,
-    raw: SocketAddr,
-    trace: u64,
-) -> Result<(), AllocError>
-    ensures { OnOk result (out.new.items ≡ out.old.items ++ kind_fields (kind.Proxied number raw trace)) }
-{
-    put_numbered(out, EventWord::Proxied, number)?;
-    put_address(out, raw)?;
-    put_number(out, trace)
-}
-
-fn put_data_in(out: &mut Vec<u8>, number: u64, raw: SocketAddr, port: u16) -> Result<(), AllocError>
-    ensures { OnOk result (out.new.items ≡ out.old.items ++ kind_fields (kind.DataIn number raw port)) }
-{
-    put_numbered(out, EventWord::Data, number)?;
-    put_address(out, raw)?;
-    put_number(out, u64::from(port))
-}
-
-fn put_accepted(
-    out: &mut Vec<u8>,
-    session: u64,
-    number: u64,
-    raw: SocketAddr,
-) -> Result<(), AllocError>
-    ensures { OnOk result (out.new.items ≡ out.old.items ++ kind_fields (kind.Accepted session number raw)) }
-{
-    put_numbered(out, EventWord::Accepted, session)?;
-    put_number(out, number)?;
-    put_address(out, raw)
-}
-
-fn put_auth(out: &mut Vec<u8>, session: u64, answer: AuthAnswer) -> Result<(), AllocError>
-    ensures { OnOk result (out.new.items ≡ out.old.items ++ kind_fields (kind.AuthDone session answer)) }
-{
-    put_numbered(out, EventWord::Auth, session)?;
-    put_answer(out, answer)
 }
 
 fn put_pasv(
@@ -196,20 +179,6 @@ fn put_transfer(out: &mut Vec<u8>, session: u64, command: &DataChanCmd) -> Resul
     }
 }
 
-fn put_stou(out: &mut Vec<u8>, session: u64, word: u128) -> Result<(), AllocError>
-    ensures { OnOk result (out.new.items ≡ out.old.items ++ kind_fields (kind.Stou session word)) }
-{
-    put_numbered(out, EventWord::Stou, session)?;
-    put_hex_word(out, word)
-}
-
-fn put_rest(out: &mut Vec<u8>, session: u64, offset: u64) -> Result<(), AllocError>
-    ensures { OnOk result (out.new.items ≡ out.old.items ++ kind_fields (kind.Rest session offset)) }
-{
-    put_numbered(out, EventWord::Rest, session)?;
-    put_number(out, offset)
-}
-
 fn put_cwd(
     out: &mut Vec<u8>,
     session: u64,
@@ -221,13 +190,6 @@ fn put_cwd(
     put_numbered(out, EventWord::Cwd, session)?;
     put_refusal(out, refusal)?;
     put_text_field(out, path.as_slice())
-}
-
-fn put_internal(out: &mut Vec<u8>, session: u64, message: &ControlChanMsg) -> Result<(), AllocError>
-    ensures { OnOk result (out.new.items ≡ out.old.items ++ kind_fields (kind.Internal session message.now)) }
-{
-    put_numbered(out, EventWord::Internal, session)?;
-    put_message(out, message)
 }
 
 // The word of an event, and the number that it is about.
