@@ -4,7 +4,7 @@ ghost use Rattle.std.specs.Prelude.{◌≡◌};
 ghost use Rattle.ftp_text.specs.Reading.{Gives, by_word};
 ghost use Rattle.ftp_text.specs.ActionReading.{action_word_text, action_words, completed_at, start_at, reply_at, action_behind, action_at};
 
-use crate::fault::LineFault;
+use crate::fault::{LineFault, Parsed};
 use crate::field::{
     fields, literal, number, reply_code, small, text_to_end, ticket, word, word_value,
 };
@@ -17,7 +17,7 @@ use std::alloc::Global;
 
 /// An action, with the mark before it, up to the end of the line.
 #[tactic(auto, unfolding(crate::specs::ActionReading::action_at, crate::specs::Reading::word_value))]
-pub fn action(alloc: Global, bytes: &[u8]) -> Result<(Action, &[u8]), LineFault>
+pub fn action(alloc: Global, bytes: &[u8]) -> Parsed<'_, Action>
     ensures { Gives (λ x. (x.0, x.1.now)) result (action_at bytes.now) }
 {
     let rest = literal(b"-", bytes)?;
@@ -26,7 +26,7 @@ pub fn action(alloc: Global, bytes: &[u8]) -> Result<(Action, &[u8]), LineFault>
 }
 
 // The action of a word, with what stands behind it.
-fn behind<'a>(alloc: Global, word: &[u8], bytes: &'a [u8]) -> Result<(Action, &'a [u8]), LineFault>
+fn behind<'a>(alloc: Global, word: &[u8], bytes: &'a [u8]) -> Parsed<'a, Action>
     ensures { Gives (λ x. (x.0, x.1.now)) result (by_word action_word_text action_words action_behind word.now bytes.now) }
 {
     match word {
@@ -45,7 +45,7 @@ fn behind<'a>(alloc: Global, word: &[u8], bytes: &'a [u8]) -> Result<(Action, &'
 }
 
 #[tactic(auto, unfolding(crate::specs::ActionReading::completed_at, crate::specs::Reading::word_value))]
-fn completed(bytes: &[u8]) -> Result<(Action, &[u8]), LineFault>
+fn completed(bytes: &[u8]) -> Parsed<'_, Action>
     ensures { Gives (λ x. (x.0, x.1.now)) result (completed_at bytes.now) }
 {
     let (session, nr, rest) = ticket(bytes)?;
@@ -55,7 +55,7 @@ fn completed(bytes: &[u8]) -> Result<(Action, &[u8]), LineFault>
 }
 
 #[tactic(auto, unfolding(crate::specs::ActionReading::start_at))]
-fn start(bytes: &[u8]) -> Result<(Action, &[u8]), LineFault>
+fn start(bytes: &[u8]) -> Parsed<'_, Action>
     ensures { Gives (λ x. (x.0, x.1.now)) result (start_at bytes.now) }
 {
     let (session, nr, rest) = ticket(bytes)?;
@@ -65,7 +65,7 @@ fn start(bytes: &[u8]) -> Result<(Action, &[u8]), LineFault>
 }
 
 #[tactic(auto, unfolding(crate::specs::ActionReading::reply_at))]
-fn reply(alloc: Global, bytes: &[u8]) -> Result<(Action, &[u8]), LineFault>
+fn reply(alloc: Global, bytes: &[u8]) -> Parsed<'_, Action>
     ensures { Gives (λ x. (x.0, x.1.now)) result (reply_at bytes.now) }
 {
     let (session, rest) = number(bytes)?;

@@ -6,7 +6,7 @@ ghost use Rattle.ftp_text.specs.Printing.{result_text};
 ghost use Rattle.ftp_text.specs.LogLines.{answer_word_text};
 ghost use Rattle.ftp_text.specs.AnswerReading.{answer_words, results, has_letter, header_at, outcome_at, answer_behind, answer_at};
 
-use crate::fault::LineFault;
+use crate::fault::{LineFault, Parsed};
 use crate::field::{address, fields, literal, number, word, word_or_none, word_value};
 use crate::word::{ENDS, FAULTS, KINDS, PROXY_ERRORS};
 use ftp_base::value_named;
@@ -16,7 +16,7 @@ use ftp_transfer::{Completion, Outcome};
 
 /// An answer, with the mark before it.
 #[tactic(auto, unfolding(crate::specs::AnswerReading::answer_at, crate::specs::Reading::word_value))]
-pub fn answer(bytes: &[u8]) -> Result<(Answer, &[u8]), LineFault>
+pub fn answer(bytes: &[u8]) -> Parsed<'_, Answer>
     ensures { Gives (λ x. (x.0, x.1.now)) result (answer_at bytes.now) }
 {
     let rest = literal(b"?", bytes)?;
@@ -25,7 +25,7 @@ pub fn answer(bytes: &[u8]) -> Result<(Answer, &[u8]), LineFault>
 }
 
 // The answer of a word, with what stands behind it.
-fn behind<'a>(word: &[u8], bytes: &'a [u8]) -> Result<(Answer, &'a [u8]), LineFault>
+fn behind<'a>(word: &[u8], bytes: &'a [u8]) -> Parsed<'a, Answer>
     ensures { Gives (λ x. (x.0, x.1.now)) result (by_word answer_word_text answer_words answer_behind word.now bytes.now) }
 {
     match word {
@@ -38,7 +38,7 @@ fn behind<'a>(word: &[u8], bytes: &'a [u8]) -> Result<(Answer, &'a [u8]), LineFa
 
 // What the header of a proxy says, or why it is none.
 #[tactic(auto, unfolding(crate::specs::AnswerReading::header_at, crate::specs::Reading::word_value))]
-fn header(bytes: &[u8]) -> Result<(Result<ProxyHeader, ProxyError>, &[u8]), LineFault>
+fn header(bytes: &[u8]) -> Parsed<'_, Result<ProxyHeader, ProxyError>>
     ensures { Gives (λ x. (x.0, x.1.now)) result (header_at bytes.now) }
 {
     if has_letter(bytes) {
@@ -58,7 +58,7 @@ fn has_letter(bytes: &[u8]) -> bool
 }
 
 #[tactic(auto, unfolding(crate::specs::AnswerReading::outcome_at, crate::specs::Reading::word_value))]
-fn outcome(bytes: &[u8]) -> Result<(Outcome, &[u8]), LineFault>
+fn outcome(bytes: &[u8]) -> Parsed<'_, Outcome>
     ensures { Gives (λ x. (x.0, x.1.now)) result (outcome_at bytes.now) }
 {
     let (word, rest) = word(bytes)?;

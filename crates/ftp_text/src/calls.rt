@@ -5,7 +5,7 @@ ghost use Rattle.std.specs.List.{slice_split};
 ghost use Rattle.std.specs.Option.{option_map_or};
 ghost use Rattle.ftp_text.specs.Reading.{Gives, is_comma, each_of, list_of, calls_field, call_of, link_call_of};
 
-use crate::fault::LineFault;
+use crate::fault::{LineFault, Parsed};
 use crate::field::{after, named, number_here, word};
 use crate::word::FAULTS;
 use ftp_base::{FailingCall, LinkFault, Rows, rise};
@@ -66,10 +66,7 @@ fn link_call(word: &[u8]) -> Result<(u64, LinkFault), LineFault>
 ///
 /// - The same of the calls that fail, which rise from 1 on.
 #[tactic(auto, unfolding(crate::specs::Reading::calls_field))]
-pub fn failing_calls<C: CallText>(
-    alloc: Global,
-    bytes: &[u8],
-) -> Result<(FailingCalls<C>, &[u8]), LineFault>
+pub fn failing_calls<C: CallText>(alloc: Global, bytes: &[u8]) -> Parsed<'_, FailingCalls<C>>
     ensures { Gives (λ x. (x.0, x.1.now)) result (calls_field C.spelled C.number bytes.now) }
 {
     let (word, rest) = word(bytes)?;

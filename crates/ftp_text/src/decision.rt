@@ -5,7 +5,7 @@ ghost use Rattle.ftp_text.specs.Printing.{decision_text};
 ghost use Rattle.ftp_text.specs.Reading.{Gives, find_word, word_value};
 ghost use Rattle.ftp_text.specs.DecisionReading.{lock_and_delay_at, decision_behind, decision_at};
 
-use crate::fault::LineFault;
+use crate::fault::{LineFault, Parsed};
 use crate::field::{fields, literal, number, port, small, ticket, word, word_or_none, word_value};
 use crate::printing::decision_text;
 use crate::word::{KINDS, LOCKS, PROXY_ERRORS};
@@ -71,7 +71,7 @@ const HEADS: [Decision; 46] = [
 
 /// A decision, with the mark before it.
 #[tactic(auto, unfolding(crate::specs::DecisionReading::decision_at))]
-pub fn decision(bytes: &[u8]) -> Result<(Decision, &[u8]), LineFault>
+pub fn decision(bytes: &[u8]) -> Parsed<'_, Decision>
     ensures { Gives (λ x. (x.0, x.1.now)) result (decision_at bytes.now) }
 {
     let rest = literal(b"=", bytes)?;
@@ -81,7 +81,7 @@ pub fn decision(bytes: &[u8]) -> Result<(Decision, &[u8]), LineFault>
 
 // The decision of the table that a word names.
 #[tactic(auto, unfolding(crate::specs::Reading::word_value))]
-fn head_in<'a>(table: &[Decision], bytes: &'a [u8]) -> Result<(Decision, &'a [u8]), LineFault>
+fn head_in<'a>(table: &[Decision], bytes: &'a [u8]) -> Parsed<'a, Decision>
     ensures { Gives (λ x. (x.0, x.1.now)) result (word_value decision_text table.now bytes.now) }
 {
     let (word, rest) = word(bytes)?;
@@ -99,7 +99,7 @@ fn named(table: &[Decision], word: &[u8]) -> Option<Decision>
 
 // The decision of this name with the fields that are spelled behind it.
 #[tactic(auto, unfolding(crate::specs::Reading::word_value))]
-fn behind(head: Decision, bytes: &[u8]) -> Result<(Decision, &[u8]), LineFault>
+fn behind(head: Decision, bytes: &[u8]) -> Parsed<'_, Decision>
     ensures { Gives (λ x. (x.0, x.1.now)) result (decision_behind head bytes.now) }
 {
     match head {
@@ -123,7 +123,7 @@ fn behind(head: Decision, bytes: &[u8]) -> Result<(Decision, &[u8]), LineFault>
 
 // How a failed login stands with the lock, and after how long it is answered.
 #[tactic(auto, unfolding(crate::specs::Reading::word_value))]
-fn lock_and_delay(bytes: &[u8]) -> Result<((Option<LockState>, u32), &[u8]), LineFault>
+fn lock_and_delay(bytes: &[u8]) -> Parsed<'_, (Option<LockState>, u32)>
     ensures { Gives (λ x. (x.0, x.1.now)) result (lock_and_delay_at bytes.now) }
 {
     fields!(bytes; lock = word_or_none(b"none", &LOCKS), delay = small(4_294_967_296) => (lock, delay as u32))

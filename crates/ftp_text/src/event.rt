@@ -10,7 +10,7 @@ ghost use Rattle.ftp_text.specs.declared.event_word.EventWord.TheVariants as wor
 ghost use Rattle.ftp_text.specs.EventReading.{fields_at, event_of};
 
 use crate::event_word::{EVENT_WORDS, EventWord};
-use crate::fault::LineFault;
+use crate::fault::{LineFault, Parsed};
 use crate::field::{
     address, fields, hex_word, number, number_here, optional_dotted, optional_number,
     optional_port, optional_text, port, text_to_end, ticket, word_or_none, word_value,
@@ -58,7 +58,7 @@ fn event(alloc: Global, line: &[u8]) -> Result<HubEvent, LineFault>
 }
 
 #[tactic(auto, unfolding(crate::specs::EventReading::read_as))]
-fn event_kind(alloc: Global, word: EventWord, bytes: &[u8]) -> Result<(EventKind, &[u8]), LineFault>
+fn event_kind(alloc: Global, word: EventWord, bytes: &[u8]) -> Parsed<'_, EventKind>
     ensures { Gives (λ x. (x.0, x.1.now)) result (fields_at word bytes.now) }
 {
     match word {
@@ -110,21 +110,21 @@ fn event_kind(alloc: Global, word: EventWord, bytes: &[u8]) -> Result<(EventKind
 }
 
 // A session and a text.
-fn on_text(alloc: Global, bytes: &[u8]) -> Result<((u64, Bytes), &[u8]), LineFault>
+fn on_text(alloc: Global, bytes: &[u8]) -> Parsed<'_, (u64, Bytes)>
     ensures { Gives (λ x. (x.0, x.1.now)) result (all_read (Number ▸ Text) bytes.now) }
 {
     fields!(bytes; session = number(), text = text_to_end(alloc) => (session, text))
 }
 
 // A session, and a text or none.
-fn on_dir(alloc: Global, bytes: &[u8]) -> Result<((u64, Option<Bytes>), &[u8]), LineFault>
+fn on_dir(alloc: Global, bytes: &[u8]) -> Parsed<'_, (u64, Option<Bytes>)>
     ensures { Gives (λ x. (x.0, x.1.now)) result (all_read (Number ▸ MaybeText) bytes.now) }
 {
     fields!(bytes; session = number(), text = optional_text(alloc) => (session, text))
 }
 
 #[tactic(auto, unfolding(crate::specs::EventReading::read_as))]
-fn connect(bytes: &[u8]) -> Result<(EventKind, &[u8]), LineFault>
+fn connect(bytes: &[u8]) -> Parsed<'_, EventKind>
     ensures { Gives (λ x. (x.0, x.1.now)) result (fields_at word.Connect bytes.now) }
 {
     fields!(bytes; session = number(), raw = address(), local = address(), trace = number()
@@ -132,7 +132,7 @@ fn connect(bytes: &[u8]) -> Result<(EventKind, &[u8]), LineFault>
 }
 
 #[tactic(auto, unfolding(crate::specs::EventReading::read_as))]
-fn proxied(bytes: &[u8]) -> Result<(EventKind, &[u8]), LineFault>
+fn proxied(bytes: &[u8]) -> Parsed<'_, EventKind>
     ensures { Gives (λ x. (x.0, x.1.now)) result (fields_at word.Proxied bytes.now) }
 {
     fields!(bytes; n = number(), raw = address(), trace = number()
@@ -140,7 +140,7 @@ fn proxied(bytes: &[u8]) -> Result<(EventKind, &[u8]), LineFault>
 }
 
 #[tactic(auto, unfolding(crate::specs::EventReading::read_as))]
-fn data_in(bytes: &[u8]) -> Result<(EventKind, &[u8]), LineFault>
+fn data_in(bytes: &[u8]) -> Parsed<'_, EventKind>
     ensures { Gives (λ x. (x.0, x.1.now)) result (fields_at word.Data bytes.now) }
 {
     fields!(bytes; number = number(), raw = address(), port = port()
@@ -148,7 +148,7 @@ fn data_in(bytes: &[u8]) -> Result<(EventKind, &[u8]), LineFault>
 }
 
 #[tactic(auto, unfolding(crate::specs::EventReading::read_as))]
-fn accepted(bytes: &[u8]) -> Result<(EventKind, &[u8]), LineFault>
+fn accepted(bytes: &[u8]) -> Parsed<'_, EventKind>
     ensures { Gives (λ x. (x.0, x.1.now)) result (fields_at word.Accepted bytes.now) }
 {
     fields!(bytes; session = number(), number = number(), raw = address()
@@ -156,14 +156,14 @@ fn accepted(bytes: &[u8]) -> Result<(EventKind, &[u8]), LineFault>
 }
 
 #[tactic(auto, unfolding(crate::specs::EventReading::read_as, crate::specs::Reading::word_value))]
-fn auth(bytes: &[u8]) -> Result<(EventKind, &[u8]), LineFault>
+fn auth(bytes: &[u8]) -> Parsed<'_, EventKind>
     ensures { Gives (λ x. (x.0, x.1.now)) result (fields_at word.Auth bytes.now) }
 {
     fields!(bytes; session = number(), answer = word_value(&ANSWERS) => EventKind::AuthDone { session, answer })
 }
 
 #[tactic(auto, unfolding(crate::specs::EventReading::read_as))]
-fn pasv(bytes: &[u8]) -> Result<(EventKind, &[u8]), LineFault>
+fn pasv(bytes: &[u8]) -> Parsed<'_, EventKind>
     ensures { Gives (λ x. (x.0, x.1.now)) result (fields_at word.Pasv bytes.now) }
 {
     fields!(bytes; session = number(), word = port(), lookup = optional_dotted(), bound = optional_port()
@@ -171,7 +171,7 @@ fn pasv(bytes: &[u8]) -> Result<(EventKind, &[u8]), LineFault>
 }
 
 #[tactic(auto, unfolding(crate::specs::EventReading::read_as))]
-fn port_in(alloc: Global, bytes: &[u8]) -> Result<(EventKind, &[u8]), LineFault>
+fn port_in(alloc: Global, bytes: &[u8]) -> Parsed<'_, EventKind>
     ensures { Gives (λ x. (x.0, x.1.now)) result (fields_at word.Port bytes.now) }
 {
     fields!(bytes; session = number(), number = optional_number(), text = text_to_end(alloc)
@@ -179,21 +179,21 @@ fn port_in(alloc: Global, bytes: &[u8]) -> Result<(EventKind, &[u8]), LineFault>
 }
 
 #[tactic(auto, unfolding(crate::specs::EventReading::read_as))]
-fn stou(bytes: &[u8]) -> Result<(EventKind, &[u8]), LineFault>
+fn stou(bytes: &[u8]) -> Parsed<'_, EventKind>
     ensures { Gives (λ x. (x.0, x.1.now)) result (fields_at word.Stou bytes.now) }
 {
     fields!(bytes; session = number(), word = hex_word() => EventKind::Stou { session, word })
 }
 
 #[tactic(auto, unfolding(crate::specs::EventReading::read_as))]
-fn rest(bytes: &[u8]) -> Result<(EventKind, &[u8]), LineFault>
+fn rest(bytes: &[u8]) -> Parsed<'_, EventKind>
     ensures { Gives (λ x. (x.0, x.1.now)) result (fields_at word.Rest bytes.now) }
 {
     fields!(bytes; session = number(), offset = number() => EventKind::Rest { session, offset })
 }
 
 #[tactic(auto, unfolding(crate::specs::EventReading::read_as, crate::specs::Reading::word_value))]
-fn cwd(alloc: Global, bytes: &[u8]) -> Result<(EventKind, &[u8]), LineFault>
+fn cwd(alloc: Global, bytes: &[u8]) -> Parsed<'_, EventKind>
     ensures { Gives (λ x. (x.0, x.1.now)) result (fields_at word.Cwd bytes.now) }
 {
     fields!(bytes; session = number(), refusal = word_or_none(b"ok", &KINDS), path = text_to_end(alloc)
@@ -201,7 +201,7 @@ fn cwd(alloc: Global, bytes: &[u8]) -> Result<(EventKind, &[u8]), LineFault>
 }
 
 #[tactic(auto, unfolding(crate::specs::EventReading::read_as))]
-fn internal(alloc: Global, bytes: &[u8]) -> Result<(EventKind, &[u8]), LineFault>
+fn internal(alloc: Global, bytes: &[u8]) -> Parsed<'_, EventKind>
     ensures { Gives (λ x. (x.0, x.1.now)) result (fields_at word.Internal bytes.now) }
 {
     fields!(bytes; session = number(), message = message_to_end(alloc) => EventKind::Internal { session, message })

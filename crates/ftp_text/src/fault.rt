@@ -16,6 +16,9 @@ pub enum LineFault {
     Bad,
 }
 
+/// What was read of the bytes, and the bytes behind it.
+pub type Parsed<'a, V> = Result<(V, &'a [u8]), LineFault>;
+
 impl From<AllocError> for LineFault {
     ghost from_gives = { λ _ e. e ≡ Memory };
 

@@ -10,7 +10,7 @@ ghost use Rattle.ftp_base.specs.Reply.{code_text};
 ghost use Rattle.std.specs.Map.{lookup};
 ghost use Rattle.std.specs.Str.{bytes_eq};
 
-use crate::fault::LineFault;
+use crate::fault::{LineFault, Parsed};
 use crate::text::{self, nibble, whole_text};
 use crate::word::{code_named, value_or_none};
 use ftp_base::{Bytes, IpAddr, ReplyCode, SocketAddr, value_named};
@@ -105,7 +105,7 @@ fn numeral(digits: &[u8]) -> Result<u64, LineFault>
 
 /// The number whose digits stand at the front.
 #[tactic(auto, unfolding(crate::specs::Reading::number_at))]
-pub fn number_here(bytes: &[u8]) -> Result<(u64, &[u8]), LineFault>
+pub fn number_here(bytes: &[u8]) -> Parsed<'_, u64>
     ensures { Gives (λ x. (x.0, x.1.now)) result (number_at bytes.now) }
 {
     let (front, rest) = bytes.split_at(digits(bytes));
@@ -115,7 +115,7 @@ pub fn number_here(bytes: &[u8]) -> Result<(u64, &[u8]), LineFault>
 
 /// The number below the limit whose digits stand at the front.
 #[tactic(auto, unfolding(crate::specs::Reading::small_at))]
-pub fn small_here(limit: u64, bytes: &[u8]) -> Result<(u64, &[u8]), LineFault>
+pub fn small_here(limit: u64, bytes: &[u8]) -> Parsed<'_, u64>
     ensures read { Gives (λ x. (x.0, x.1.now)) result (small_at limit bytes.now) }
     ensures limit { IfOk result (λ x. x.0 < limit) }
 {
@@ -129,7 +129,7 @@ pub fn small_here(limit: u64, bytes: &[u8]) -> Result<(u64, &[u8]), LineFault>
 
 /// The IPv4 address that stands at the front: four numbers joined by dots, as one number.
 #[tactic(auto, unfolding(crate::specs::Reading::dotted_at))]
-pub fn dotted_here(bytes: &[u8]) -> Result<(u32, &[u8]), LineFault>
+pub fn dotted_here(bytes: &[u8]) -> Parsed<'_, u32>
     ensures { Gives (λ x. (x.0, x.1.now)) result (dotted_at bytes.now) }
 {
     let (a, rest) = small_here(256, bytes)?;
@@ -143,21 +143,21 @@ pub fn dotted_here(bytes: &[u8]) -> Result<(u32, &[u8]), LineFault>
 }
 
 /// The port whose digits stand at the front.
-pub fn port_here(bytes: &[u8]) -> Result<(u16, &[u8]), LineFault>
+pub fn port_here(bytes: &[u8]) -> Parsed<'_, u16>
     ensures { Gives (λ x. (x.0, x.1.now)) result (small_at (2 ^ 16) bytes.now) }
 {
     let (n, rest) = small_here(65536, bytes)?;
     Ok((n as u16, rest))
 }
 
-fn port_at_colon(bytes: &[u8]) -> Result<(u16, &[u8]), LineFault>
+fn port_at_colon(bytes: &[u8]) -> Parsed<'_, u16>
     ensures { Gives (λ x. (x.0, x.1.now)) result (port_at_colon bytes.now) }
 {
     port_here(after(b':', bytes)?)
 }
 
 #[tactic(auto, unfolding(crate::specs::Reading::ipv4_at))]
-fn ipv4(bytes: &[u8]) -> Result<(SocketAddr, &[u8]), LineFault>
+fn ipv4(bytes: &[u8]) -> Parsed<'_, SocketAddr>
     ensures { Gives (λ x. (x.0, x.1.now)) result (ipv4_at bytes.now) }
 {
     let (ip, rest) = dotted_here(bytes)?;
@@ -183,7 +183,7 @@ fn hex_value(digits: &[u8]) -> Option<u128>
 
 // The number that 32 hexadecimal digits spell.
 #[tactic(auto, unfolding(crate::specs::Reading::hex_word_at))]
-fn hex_word_here(bytes: &[u8]) -> Result<(u128, &[u8]), LineFault>
+fn hex_word_here(bytes: &[u8]) -> Parsed<'_, u128>
     ensures { Gives (λ x. (x.0, x.1.now)) result (hex_word_at bytes.now) }
 {
     if bytes.len() < 32 {
@@ -197,7 +197,7 @@ fn hex_word_here(bytes: &[u8]) -> Result<(u128, &[u8]), LineFault>
 }
 
 #[tactic(auto, unfolding(crate::specs::Reading::ipv6_at))]
-fn ipv6(bytes: &[u8]) -> Result<(SocketAddr, &[u8]), LineFault>
+fn ipv6(bytes: &[u8]) -> Parsed<'_, SocketAddr>
     ensures { Gives (λ x. (x.0, x.1.now)) result (ipv6_at bytes.now) }
 {
     let (ip, rest) = hex_word_here(after(b'[', bytes)?)?;
@@ -207,7 +207,7 @@ fn ipv6(bytes: &[u8]) -> Result<(SocketAddr, &[u8]), LineFault>
 }
 
 #[tactic(auto, unfolding(crate::specs::Reading::address_at))]
-fn address_here(bytes: &[u8]) -> Result<(SocketAddr, &[u8]), LineFault>
+fn address_here(bytes: &[u8]) -> Parsed<'_, SocketAddr>
     ensures { Gives (λ x. (x.0, x.1.now)) result (address_at bytes.now) }
 {
     match bytes {
@@ -217,7 +217,7 @@ fn address_here(bytes: &[u8]) -> Result<(SocketAddr, &[u8]), LineFault>
 }
 
 // The IPv6 address that stands in brackets at the front.
-fn ip_in_brackets(bytes: &[u8]) -> Result<(IpAddr, &[u8]), LineFault>
+fn ip_in_brackets(bytes: &[u8]) -> Parsed<'_, IpAddr>
     ensures { Gives (λ x. (x.0, x.1.now)) result (made V6 (behind 91 (before_text (codes "]") hex_word_at)) bytes.now) }
 {
     let (ip, rest) = hex_word_here(after(b'[', bytes)?)?;
@@ -226,7 +226,7 @@ fn ip_in_brackets(bytes: &[u8]) -> Result<(IpAddr, &[u8]), LineFault>
 }
 
 #[tactic(auto, unfolding(crate::specs::Reading::ip_at))]
-fn ip_here(bytes: &[u8]) -> Result<(IpAddr, &[u8]), LineFault>
+fn ip_here(bytes: &[u8]) -> Parsed<'_, IpAddr>
     ensures { Gives (λ x. (x.0, x.1.now)) result (ip_at bytes.now) }
 {
     match bytes {
@@ -239,14 +239,14 @@ fn ip_here(bytes: &[u8]) -> Result<(IpAddr, &[u8]), LineFault>
 }
 
 /// A number of 64 bits.
-pub fn number(bytes: &[u8]) -> Result<(u64, &[u8]), LineFault>
+pub fn number(bytes: &[u8]) -> Parsed<'_, u64>
     ensures { Gives (λ x. (x.0, x.1.now)) result (number_field bytes.now) }
 {
     number_here(after(b' ', bytes)?)
 }
 
 /// A number below the limit.
-pub fn small(limit: u64, bytes: &[u8]) -> Result<(u64, &[u8]), LineFault>
+pub fn small(limit: u64, bytes: &[u8]) -> Parsed<'_, u64>
     ensures read { Gives (λ x. (x.0, x.1.now)) result (small_field limit bytes.now) }
     ensures limit { IfOk result (λ x. x.0 < limit) }
 {
@@ -254,21 +254,21 @@ pub fn small(limit: u64, bytes: &[u8]) -> Result<(u64, &[u8]), LineFault>
 }
 
 /// A port.
-pub fn port(bytes: &[u8]) -> Result<(u16, &[u8]), LineFault>
+pub fn port(bytes: &[u8]) -> Parsed<'_, u16>
     ensures { Gives (λ x. (x.0, x.1.now)) result (small_field (2 ^ 16) bytes.now) }
 {
     port_here(after(b' ', bytes)?)
 }
 
 /// An address and a port.
-pub fn address(bytes: &[u8]) -> Result<(SocketAddr, &[u8]), LineFault>
+pub fn address(bytes: &[u8]) -> Parsed<'_, SocketAddr>
     ensures { Gives (λ x. (x.0, x.1.now)) result (address_field bytes.now) }
 {
     address_here(after(b' ', bytes)?)
 }
 
 /// An address without a port.
-pub fn ip(bytes: &[u8]) -> Result<(IpAddr, &[u8]), LineFault>
+pub fn ip(bytes: &[u8]) -> Parsed<'_, IpAddr>
     ensures { Gives (λ x. (x.0, x.1.now)) result (ip_field bytes.now) }
 {
     ip_here(after(b' ', bytes)?)
@@ -289,7 +289,7 @@ macro_rules! optional {
 
 /// An address without a port that may be missing.
 #[tactic(auto, unfolding(crate::specs::Reading::optional_field))]
-pub fn optional_ip(bytes: &[u8]) -> Result<(Option<IpAddr>, &[u8]), LineFault>
+pub fn optional_ip(bytes: &[u8]) -> Parsed<'_, Option<IpAddr>>
     ensures { Gives (λ x. (x.0, x.1.now)) result (optional_field ip_at bytes.now) }
 {
     optional!(ip_here, bytes)
@@ -297,7 +297,7 @@ pub fn optional_ip(bytes: &[u8]) -> Result<(Option<IpAddr>, &[u8]), LineFault>
 
 /// A number of 64 bits that may be missing.
 #[tactic(auto, unfolding(crate::specs::Reading::optional_field))]
-pub fn optional_number(bytes: &[u8]) -> Result<(Option<u64>, &[u8]), LineFault>
+pub fn optional_number(bytes: &[u8]) -> Parsed<'_, Option<u64>>
     ensures { Gives (λ x. (x.0, x.1.now)) result (optional_field number_at bytes.now) }
 {
     optional!(number_here, bytes)
@@ -305,7 +305,7 @@ pub fn optional_number(bytes: &[u8]) -> Result<(Option<u64>, &[u8]), LineFault>
 
 /// A port that may be missing.
 #[tactic(auto, unfolding(crate::specs::Reading::optional_field))]
-pub fn optional_port(bytes: &[u8]) -> Result<(Option<u16>, &[u8]), LineFault>
+pub fn optional_port(bytes: &[u8]) -> Parsed<'_, Option<u16>>
     ensures { Gives (λ x. (x.0, x.1.now)) result (optional_field (small_at (2 ^ 16)) bytes.now) }
 {
     optional!(port_here, bytes)
@@ -313,7 +313,7 @@ pub fn optional_port(bytes: &[u8]) -> Result<(Option<u16>, &[u8]), LineFault>
 
 /// An IPv4 address that may be missing.
 #[tactic(auto, unfolding(crate::specs::Reading::optional_field))]
-pub fn optional_dotted(bytes: &[u8]) -> Result<(Option<u32>, &[u8]), LineFault>
+pub fn optional_dotted(bytes: &[u8]) -> Parsed<'_, Option<u32>>
     ensures { Gives (λ x. (x.0, x.1.now)) result (optional_field dotted_at bytes.now) }
 {
     optional!(dotted_here, bytes)
@@ -321,7 +321,7 @@ pub fn optional_dotted(bytes: &[u8]) -> Result<(Option<u32>, &[u8]), LineFault>
 
 /// A text, up to the end of the line.
 #[tactic(auto, unfolding(crate::specs::Reading::text_field))]
-pub fn text_to_end(alloc: Global, bytes: &[u8]) -> Result<(Bytes, &[u8]), LineFault>
+pub fn text_to_end(alloc: Global, bytes: &[u8]) -> Parsed<'_, Bytes>
     ensures { Gives (λ x. (x.0, x.1.now)) result (text_field bytes.now) }
 {
     let text = whole_text(alloc, after(b' ', bytes)?)?;
@@ -330,7 +330,7 @@ pub fn text_to_end(alloc: Global, bytes: &[u8]) -> Result<(Bytes, &[u8]), LineFa
 
 /// A text up to the end of the line, or none where the line ends here.
 #[tactic(auto, unfolding(crate::specs::Reading::optional_text_field))]
-pub fn optional_text(alloc: Global, bytes: &[u8]) -> Result<(Option<Bytes>, &[u8]), LineFault>
+pub fn optional_text(alloc: Global, bytes: &[u8]) -> Parsed<'_, Option<Bytes>>
     ensures { Gives (λ x. (x.0, x.1.now)) result (optional_text_field bytes.now) }
 {
     if bytes.is_empty() {
@@ -350,7 +350,7 @@ pub fn ticket(bytes: &[u8]) -> Result<(u64, u64, &[u8]), LineFault>
 }
 
 /// A number of 128 bits, in 32 hexadecimal digits.
-pub fn hex_word(bytes: &[u8]) -> Result<(u128, &[u8]), LineFault>
+pub fn hex_word(bytes: &[u8]) -> Parsed<'_, u128>
     ensures { Gives (λ x. (x.0, x.1.now)) result (hex_word_field bytes.now) }
 {
     hex_word_here(after(b' ', bytes)?)
@@ -379,7 +379,7 @@ pub fn first_word(bytes: &[u8]) -> (&[u8], &[u8])
 
 /// A word, up to the next space or the end.
 #[tactic(auto, unfolding(crate::specs::Reading::word_at))]
-pub fn word(bytes: &[u8]) -> Result<(&[u8], &[u8]), LineFault>
+pub fn word(bytes: &[u8]) -> Parsed<'_, &[u8]>
     ensures { Gives (λ x. (x.0.now, x.1.now)) result (word_at bytes.now) }
 {
     let rest = after(b' ', bytes)?;
@@ -388,7 +388,7 @@ pub fn word(bytes: &[u8]) -> Result<(&[u8], &[u8]), LineFault>
 
 /// Bytes in hexadecimal digits.
 #[tactic(auto, unfolding(crate::specs::Reading::hex_field))]
-pub fn hex_bytes(alloc: Global, bytes: &[u8]) -> Result<(Bytes, &[u8]), LineFault>
+pub fn hex_bytes(alloc: Global, bytes: &[u8]) -> Parsed<'_, Bytes>
     ensures { Gives (λ x. (x.0, x.1.now)) result (hex_field bytes.now) }
 {
     let (word, rest) = word(bytes)?;
@@ -420,10 +420,7 @@ pub(crate) fn named<V: Copy>(table: &[(&[u8], V)], word: &[u8]) -> Result<V, Lin
 /// # Proved
 ///
 /// - A word is read exactly where it is one of its table.
-pub fn word_value<'a, V: Copy>(
-    table: &[(&[u8], V)],
-    bytes: &'a [u8],
-) -> Result<(V, &'a [u8]), LineFault>
+pub fn word_value<'a, V: Copy>(table: &[(&[u8], V)], bytes: &'a [u8]) -> Parsed<'a, V>
     ensures { Gives (λ x. (x.0, x.1.now)) result (word_as (λ word. lookup (λ name. bytes_eq name.now word) table.now) bytes.now) }
 {
     let (word, rest) = word(bytes)?;
@@ -436,7 +433,7 @@ pub(crate) fn word_or_none<'a, V: Copy>(
     none: &[u8],
     table: &[(&[u8], V)],
     bytes: &'a [u8],
-) -> Result<(Option<V>, &'a [u8]), LineFault>
+) -> Parsed<'a, Option<V>>
     ensures { Gives (λ x. (x.0, x.1.now)) result (word_as (named_or_none none.now table.now) bytes.now) }
 {
     let (word, rest) = word(bytes)?;
@@ -448,10 +445,7 @@ pub(crate) fn word_or_none<'a, V: Copy>(
 
 /// The code of the table that a word spells.
 #[tactic(auto, unfolding(crate::specs::Reading::word_value))]
-pub(crate) fn reply_code<'a>(
-    table: &[ReplyCode],
-    bytes: &'a [u8],
-) -> Result<(ReplyCode, &'a [u8]), LineFault>
+pub(crate) fn reply_code<'a>(table: &[ReplyCode], bytes: &'a [u8]) -> Parsed<'a, ReplyCode>
     ensures { Gives (λ x. (x.0, x.1.now)) result (word_value code_text table.now bytes.now) }
 {
     let (word, rest) = word(bytes)?;

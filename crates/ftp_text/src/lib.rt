@@ -41,7 +41,7 @@ pub mod writing;
 pub use calls::{CallText, FailingCalls, failing_calls};
 pub use event::read_event;
 pub use event_writing::put_event;
-pub use fault::LineFault;
+pub use fault::{LineFault, Parsed};
 pub use laws::{one_line_is_the_first_bad, printed_logs_have_no_bad_line};
 pub use line::{LogLine, read_log_line};
 pub use message::{message_to_end, put_message};

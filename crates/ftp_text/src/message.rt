@@ -8,7 +8,7 @@ ghost use Rattle.ftp_text.specs.Fields.{field, escape};
 ghost use Rattle.ftp_text.specs.Reading.{Gives, by_word};
 ghost use Rattle.ftp_text.specs.Message.{message_word_text, two_paths, code_and_text, message_fields, words_with_fields, message_words, two_paths_at, message_behind, message_at};
 
-use crate::fault::LineFault;
+use crate::fault::{LineFault, Parsed};
 use crate::field::{fields, number, reply_code, text_to_end, word, word_value};
 use crate::word::{KINDS, REPLY_CODES};
 use crate::writing::{put_error_kind, put_field, put_number, put_text, put_text_field};
@@ -17,7 +17,7 @@ use std::alloc::{AllocError, Global};
 
 /// A message, up to the end of the line.
 #[tactic(auto, unfolding(crate::specs::Message::message_at, crate::specs::Reading::word_value))]
-pub fn message_to_end(alloc: Global, bytes: &[u8]) -> Result<(ControlChanMsg, &[u8]), LineFault>
+pub fn message_to_end(alloc: Global, bytes: &[u8]) -> Parsed<'_, ControlChanMsg>
     ensures { Gives (λ x. (x.0, x.1.now)) result (message_at bytes.now) }
 {
     let (word, rest) = word(bytes)?;
@@ -25,11 +25,7 @@ pub fn message_to_end(alloc: Global, bytes: &[u8]) -> Result<(ControlChanMsg, &[
 }
 
 // The message of a word, with what stands behind it.
-fn behind<'a>(
-    alloc: Global,
-    word: &[u8],
-    bytes: &'a [u8],
-) -> Result<(ControlChanMsg, &'a [u8]), LineFault>
+fn behind<'a>(alloc: Global, word: &[u8], bytes: &'a [u8]) -> Parsed<'a, ControlChanMsg>
     ensures { Gives (λ x. (x.0, x.1.now)) result (by_word message_word_text message_words message_behind word.now bytes.now) }
 {
     match word {
@@ -42,11 +38,7 @@ fn behind<'a>(
 }
 
 // The message of a word that has fields.
-fn with_fields<'a>(
-    alloc: Global,
-    word: &[u8],
-    bytes: &'a [u8],
-) -> Result<(ControlChanMsg, &'a [u8]), LineFault>
+fn with_fields<'a>(alloc: Global, word: &[u8], bytes: &'a [u8]) -> Parsed<'a, ControlChanMsg>
     ensures { Gives (λ x. (x.0, x.1.now)) result (by_word message_word_text words_with_fields message_behind word.now bytes.now) }
 {
     match word {
@@ -64,13 +56,13 @@ fn with_fields<'a>(
 }
 
 #[tactic(auto, unfolding(crate::specs::Reading::word_value))]
-fn of_kind(bytes: &[u8]) -> Result<(ControlChanMsg, &[u8]), LineFault>
+fn of_kind(bytes: &[u8]) -> Parsed<'_, ControlChanMsg>
     ensures { Gives (λ x. (x.0, x.1.now)) result (message_behind word.Kind bytes.now) }
 {
     fields!(bytes; kind = word_value(&KINDS) => ControlChanMsg::StorageError(kind))
 }
 
-fn renamed(alloc: Global, bytes: &[u8]) -> Result<(ControlChanMsg, &[u8]), LineFault>
+fn renamed(alloc: Global, bytes: &[u8]) -> Parsed<'_, ControlChanMsg>
     ensures { Gives (λ x. (x.0, x.1.now)) result (message_behind word.Renamed bytes.now) }
 {
     fields!(bytes; (old_path, new_path) = paths_to_end(alloc) => ControlChanMsg::RenameSuccess { old_path, new_path })
@@ -78,7 +70,7 @@ fn renamed(alloc: Global, bytes: &[u8]) -> Result<(ControlChanMsg, &[u8]), LineF
 
 // Two paths: the length of the first, and a text that begins with it.
 #[tactic(auto, unfolding(crate::specs::Message::two_paths_at))]
-fn paths_to_end(alloc: Global, bytes: &[u8]) -> Result<((Bytes, Bytes), &[u8]), LineFault>
+fn paths_to_end(alloc: Global, bytes: &[u8]) -> Parsed<'_, (Bytes, Bytes)>
     ensures { Gives (λ x. (x.0, x.1.now)) result (two_paths_at bytes.now) }
 {
     let (len, rest) = number(bytes)?;
@@ -93,7 +85,7 @@ fn paths_to_end(alloc: Global, bytes: &[u8]) -> Result<((Bytes, Bytes), &[u8]), 
     Ok(((first, second), rest))
 }
 
-fn given_reply(alloc: Global, bytes: &[u8]) -> Result<(ControlChanMsg, &[u8]), LineFault>
+fn given_reply(alloc: Global, bytes: &[u8]) -> Parsed<'_, ControlChanMsg>
     ensures { Gives (λ x. (x.0, x.1.now)) result (message_behind word.AsItIs bytes.now) }
 {
     let (code, rest) = reply_code(&REPLY_CODES, bytes)?;

@@ -4,7 +4,7 @@ ghost use Rattle.std.specs.Prelude.{◌≡◌, Some};
 ghost use Rattle.ftp_text.specs.Reading.{Gives};
 ghost use Rattle.ftp_text.specs.ActionReading.{has_bytes, has_path, has_two, suits, notice_with, about_at, told_by, notify_at};
 
-use crate::fault::LineFault;
+use crate::fault::{LineFault, Parsed};
 use crate::field::{number, text_to_end, word_value};
 use crate::trace::trace;
 use crate::word::NOTICE_WORDS;
@@ -60,7 +60,7 @@ pub struct About {
 
 /// A notification behind its word, up to the end of the line.
 #[tactic(auto, unfolding(crate::specs::ActionReading::notify_at))]
-pub fn notify(alloc: Global, bytes: &[u8]) -> Result<(Action, &[u8]), LineFault>
+pub fn notify(alloc: Global, bytes: &[u8]) -> Parsed<'_, Action>
     ensures { Gives (λ x. (x.0, x.1.now)) result (notify_at bytes.now) }
 {
     let (about, rest) = before_text(alloc, bytes)?;
@@ -70,7 +70,7 @@ pub fn notify(alloc: Global, bytes: &[u8]) -> Result<(Action, &[u8]), LineFault>
 }
 
 #[tactic(auto, unfolding(crate::specs::ActionReading::about_at, crate::specs::Reading::word_value))]
-fn before_text(alloc: Global, bytes: &[u8]) -> Result<(About, &[u8]), LineFault>
+fn before_text(alloc: Global, bytes: &[u8]) -> Parsed<'_, About>
     ensures { Gives (λ x. (x.0, x.1.now)) result (about_at bytes.now) }
 {
     let (session, rest) = number(bytes)?;

@@ -4,7 +4,7 @@ ghost use Rattle.std.specs.Prelude.{◌≡◌};
 ghost use Rattle.ftp_text.specs.Reading.{Gives};
 ghost use Rattle.ftp_text.specs.OptionsReading.{mode_of, listening_at, host_of, part_at, policy_of, lockout_of, rules_at};
 
-use crate::fault::LineFault;
+use crate::fault::{LineFault, Parsed};
 use crate::field::{self, literal};
 use crate::text::whole_text;
 use crate::word::{ACTIVES, BLOCKS, RESTARTS};
@@ -24,7 +24,7 @@ type Rules = (
 
 /// Who listens, and on which ports.
 #[tactic(auto, unfolding(crate::specs::OptionsReading::listening_at, crate::specs::OptionsReading::mode_at))]
-pub fn listening(bytes: &[u8]) -> Result<(Listening, &[u8]), LineFault>
+pub fn listening(bytes: &[u8]) -> Parsed<'_, Listening>
     ensures { Gives (λ x. (x.0, x.1.now)) result (listening_at bytes.now) }
 {
     let (word, rest) = field::word(bytes)?;
@@ -57,7 +57,7 @@ fn mode_of(word: &[u8]) -> Result<ListenerMode, LineFault>
 
 /// What else the sessions go by.
 #[tactic(auto, unfolding(crate::specs::OptionsReading::rules_at, crate::specs::OptionsReading::host_at, crate::specs::OptionsReading::active_at, crate::specs::OptionsReading::lockout_at, crate::specs::OptionsReading::restart_at))]
-pub fn rules(alloc: Global, bytes: &[u8]) -> Result<(Rules, &[u8]), LineFault>
+pub fn rules(alloc: Global, bytes: &[u8]) -> Parsed<'_, Rules>
     ensures { Gives (λ x. (x.0, x.1.now)) result (rules_at bytes.now) }
 {
     let (word, rest) = field::word(bytes)?;
@@ -115,7 +115,7 @@ fn policy_of(word: &[u8]) -> Result<FailedLoginsPolicy, LineFault>
 }
 
 // A number of 32 bits, before a colon.
-fn part(bytes: &[u8]) -> Result<(u32, &[u8]), LineFault>
+fn part(bytes: &[u8]) -> Parsed<'_, u32>
     ensures { Gives (λ x. (x.0, x.1.now)) result (part_at bytes.now) }
 {
     let (n, rest) = field::small_here(4294967296, bytes)?;

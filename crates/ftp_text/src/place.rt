@@ -8,7 +8,7 @@ ghost use Rattle.ftp_text.specs.declared.line.LogLine.{LogLine};
 ghost use Rattle.ftp_text.specs.LogText.{text_of, IsLog, ComesNext, IsFirstBad, HasFirstBad, IsPrinted};
 ghost use Rattle.ftp_text.specs.Place.{stage_after, is_whole, HasRead, IsLawful};
 
-use crate::fault::LineFault;
+use crate::fault::{LineFault, Parsed};
 use crate::line::{LogLine, read_log_line};
 use memchr::memchr;
 use std::alloc::{AllocError, Global};
@@ -87,11 +87,7 @@ impl Place {
     /// - A line is read where a printed log can have it behind the lines before it, and else it is the first bad one;
     ///   an entry that is not whole at the end is bad at its last line (`line`, `bad`; also `Place::is_whole`: `whole`,
     ///   `unfinished`).
-    pub fn read<'a>(
-        &mut self,
-        alloc: Global,
-        text: &'a [u8],
-    ) -> Result<(LogLine, &'a [u8]), LineFault>
+    pub fn read<'a>(&mut self, alloc: Global, text: &'a [u8]) -> Parsed<'a, LogLine>
         requires lawful { IsLawful self.old }
         requires some { 0 < length text.now }
         ensures line { (before : List LogLine) (all : List ℕ) → HasRead before all text.now self.old →

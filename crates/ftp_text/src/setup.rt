@@ -9,7 +9,7 @@ ghost use Rattle.ftp_text.specs.SetupReading.{options_at, storage_at, dir_at, fi
 
 use crate::calls::{FailingCalls, failing_calls};
 use crate::event::read_event;
-use crate::fault::LineFault;
+use crate::fault::{LineFault, Parsed};
 use crate::field::{fields, hex_bytes, literal, number, small, text_to_end, whole};
 use crate::options::{listening, rules};
 use crate::writing::{put, put_byte, put_hex_bytes, put_number, put_text_field};
@@ -120,7 +120,7 @@ fn is_skipped(line: &[u8]) -> bool
 }
 
 #[tactic(auto, unfolding(crate::specs::SetupReading::options_at))]
-fn options(alloc: Global, bytes: &[u8]) -> Result<(Item, &[u8]), LineFault>
+fn options(alloc: Global, bytes: &[u8]) -> Parsed<'_, Item>
     ensures { Gives (λ x. (x.0, x.1.now)) result (options_at bytes.now) }
 {
     let rest = literal(b"options", bytes)?;
@@ -140,7 +140,7 @@ fn options(alloc: Global, bytes: &[u8]) -> Result<(Item, &[u8]), LineFault>
 }
 
 #[tactic(auto, unfolding(crate::specs::SetupReading::storage_at))]
-fn storage(alloc: Global, bytes: &[u8]) -> Result<(Item, &[u8]), LineFault>
+fn storage(alloc: Global, bytes: &[u8]) -> Parsed<'_, Item>
     ensures { Gives (λ x. (x.0, x.1.now)) result (storage_at bytes.now) }
 {
     let rest = literal(b"storage", bytes)?;
@@ -148,7 +148,7 @@ fn storage(alloc: Global, bytes: &[u8]) -> Result<(Item, &[u8]), LineFault>
 }
 
 #[tactic(auto, unfolding(crate::specs::SetupReading::dir_at))]
-fn dir(alloc: Global, bytes: &[u8]) -> Result<(Item, &[u8]), LineFault>
+fn dir(alloc: Global, bytes: &[u8]) -> Parsed<'_, Item>
     ensures { Gives (λ x. (x.0, x.1.now)) result (dir_at bytes.now) }
 {
     let rest = literal(b"dir", bytes)?;
@@ -160,7 +160,7 @@ fn dir(alloc: Global, bytes: &[u8]) -> Result<(Item, &[u8]), LineFault>
 }
 
 #[tactic(auto, unfolding(crate::specs::SetupReading::file_at))]
-fn file(alloc: Global, bytes: &[u8]) -> Result<(Item, &[u8]), LineFault>
+fn file(alloc: Global, bytes: &[u8]) -> Parsed<'_, Item>
     ensures { Gives (λ x. (x.0, x.1.now)) result (file_at bytes.now) }
 {
     let rest = literal(b"file", bytes)?;
@@ -173,7 +173,7 @@ fn file(alloc: Global, bytes: &[u8]) -> Result<(Item, &[u8]), LineFault>
 }
 
 #[tactic(auto, unfolding(crate::specs::SetupReading::quota_at))]
-fn quota(bytes: &[u8]) -> Result<(Item, &[u8]), LineFault>
+fn quota(bytes: &[u8]) -> Parsed<'_, Item>
     ensures { Gives (λ x. (x.0, x.1.now)) result (quota_at bytes.now) }
 {
     let rest = literal(b"quota", bytes)?;
@@ -181,7 +181,7 @@ fn quota(bytes: &[u8]) -> Result<(Item, &[u8]), LineFault>
 }
 
 #[tactic(auto, unfolding(crate::specs::SetupReading::budget_at))]
-fn budget(alloc: Global, bytes: &[u8]) -> Result<(Item, &[u8]), LineFault>
+fn budget(alloc: Global, bytes: &[u8]) -> Parsed<'_, Item>
     ensures { Gives (λ x. (x.0, x.1.now)) result (budget_at bytes.now) }
 {
     let rest = literal(b"budget", bytes)?;
@@ -199,7 +199,7 @@ fn is_absolute(path: &[u8]) -> bool
 }
 
 #[tactic(auto, unfolding(crate::specs::SetupReading::link_at))]
-fn link(alloc: Global, bytes: &[u8]) -> Result<(Item, &[u8]), LineFault>
+fn link(alloc: Global, bytes: &[u8]) -> Parsed<'_, Item>
     ensures { Gives (λ x. (x.0, x.1.now)) result (link_at bytes.now) }
 {
     let rest = literal(b"link", bytes)?;
@@ -220,7 +220,7 @@ fn link(alloc: Global, bytes: &[u8]) -> Result<(Item, &[u8]), LineFault>
 /// The number and the chunk of a link, and its calls that fail.
 type LinkCalls = ((u64, u64), FailingCalls<(u64, LinkFault)>);
 
-fn link_calls(alloc: Global, bytes: &[u8]) -> Result<(LinkCalls, &[u8]), LineFault>
+fn link_calls(alloc: Global, bytes: &[u8]) -> Parsed<'_, LinkCalls>
     ensures read { Gives (λ x. (x.0, x.1.now)) result (link_calls_at bytes.now) }
     ensures limit { IfOk result (λ x. x.0.0.1 < 65537) }
 {

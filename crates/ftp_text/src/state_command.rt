@@ -4,7 +4,7 @@ ghost use Rattle.std.specs.Prelude.{◌≡◌};
 ghost use Rattle.ftp_text.specs.Reading.{Gives};
 ghost use Rattle.ftp_text.specs.StateLineReading.{Lengths, lengths_at, command_with, command_in};
 
-use crate::fault::LineFault;
+use crate::fault::{LineFault, Parsed};
 use crate::field::optional_number;
 use crate::state_piece::{cut_off, is_from_root};
 use ftp_base::{Bytes, DataChanCmd};
@@ -15,7 +15,7 @@ use std::alloc::Global;
 pub(crate) type Lengths = (Option<u64>, Option<u64>);
 
 /// How long the options and the argument are.
-pub(crate) fn lengths(bytes: &[u8]) -> Result<(Lengths, &[u8]), LineFault>
+pub(crate) fn lengths(bytes: &[u8]) -> Parsed<'_, Lengths>
     ensures { Gives (λ x. (x.0, x.1.now)) result (lengths_at bytes.now) }
 {
     let (options, rest) = optional_number(bytes)?;

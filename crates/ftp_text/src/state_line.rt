@@ -6,7 +6,7 @@ ghost use Rattle.ftp_text.specs.Reading.{Gives, by_word};
 ghost use Rattle.ftp_text.specs.Spelling.{IsStateLine, line_word_text, state_line};
 ghost use Rattle.ftp_text.specs.StateLineReading.{RecordFields, SessionFields, QueuedFields, JobFields, checkpoint_at, used_at, record_of, record_at, opening_at, progress_at, session_of, session_at, slot_kind_at, slot_at, queued_of, queued_at, run_at, job_of, job_at, line_words, line_behind, state_line_of};
 
-use crate::fault::LineFault;
+use crate::fault::{LineFault, Parsed};
 use crate::field::{
     address, fields, first_word, ip, literal, number, optional_ip, optional_number, port, small,
     text_to_end, whole, word, word_value,
@@ -72,11 +72,7 @@ fn line_in(alloc: Global, line: &[u8]) -> Result<StateLine, LineFault>
 }
 
 // What a word and what stands behind it say.
-fn behind<'a>(
-    alloc: Global,
-    word: &[u8],
-    bytes: &'a [u8],
-) -> Result<(StateLine, &'a [u8]), LineFault>
+fn behind<'a>(alloc: Global, word: &[u8], bytes: &'a [u8]) -> Parsed<'a, StateLine>
     ensures { Gives (λ x. (x.0, x.1.now)) result (by_word line_word_text line_words line_behind word.now bytes.now) }
 {
     match word {
@@ -92,7 +88,7 @@ fn behind<'a>(
 }
 
 #[tactic(auto, unfolding(crate::specs::StateLineReading::checkpoint_at))]
-fn checkpoint(bytes: &[u8]) -> Result<(StateLine, &[u8]), LineFault>
+fn checkpoint(bytes: &[u8]) -> Parsed<'_, StateLine>
     ensures { Gives (λ x. (x.0, x.1.now)) result (checkpoint_at bytes.now) }
 {
     let rest = literal(b" 1", bytes)?;
@@ -100,7 +96,7 @@ fn checkpoint(bytes: &[u8]) -> Result<(StateLine, &[u8]), LineFault>
 }
 
 #[tactic(auto, unfolding(crate::specs::StateLineReading::used_at))]
-fn used(bytes: &[u8]) -> Result<(StateLine, &[u8]), LineFault>
+fn used(bytes: &[u8]) -> Parsed<'_, StateLine>
     ensures { Gives (λ x. (x.0, x.1.now)) result (used_at bytes.now) }
 {
     let (lo, rest) = number(bytes)?;
@@ -112,7 +108,7 @@ fn used(bytes: &[u8]) -> Result<(StateLine, &[u8]), LineFault>
 }
 
 #[tactic(auto, unfolding(crate::specs::StateLineReading::record_at))]
-fn record(alloc: Global, bytes: &[u8]) -> Result<(RecordLine, &[u8]), LineFault>
+fn record(alloc: Global, bytes: &[u8]) -> Parsed<'_, RecordLine>
     ensures { Gives (λ x. (x.0, x.1.now)) result (record_at bytes.now) }
 {
     fields!(bytes; count = small(4_294_967_296), at = number(), ip = optional_ip(), len = optional_number(),
@@ -144,7 +140,7 @@ fn record_of(
 }
 
 #[tactic(auto, unfolding(crate::specs::StateLineReading::opening_at))]
-fn opening(bytes: &[u8]) -> Result<(Opening, &[u8]), LineFault>
+fn opening(bytes: &[u8]) -> Parsed<'_, Opening>
     ensures { Gives (λ x. (x.0, x.1.now)) result (opening_at bytes.now) }
 {
     fields!(bytes; session = number(), raw = address(), local = address(), client = ip(), trace = number()
@@ -152,7 +148,7 @@ fn opening(bytes: &[u8]) -> Result<(Opening, &[u8]), LineFault>
 }
 
 #[tactic(auto, unfolding(crate::specs::StateLineReading::progress_at, crate::specs::Reading::word_value))]
-fn progress(bytes: &[u8]) -> Result<(Progress, &[u8]), LineFault>
+fn progress(bytes: &[u8]) -> Parsed<'_, Progress>
     ensures { Gives (λ x. (x.0, x.1.now)) result (progress_at bytes.now) }
 {
     fields!(bytes; state = word_value(&LOGIN_STATES), active = number(), offset = number(), tickets = number(), notices = number()
@@ -160,7 +156,7 @@ fn progress(bytes: &[u8]) -> Result<(Progress, &[u8]), LineFault>
 }
 
 #[tactic(auto, unfolding(crate::specs::StateLineReading::session_at))]
-fn session(alloc: Global, bytes: &[u8]) -> Result<(SessionLine, &[u8]), LineFault>
+fn session(alloc: Global, bytes: &[u8]) -> Parsed<'_, SessionLine>
     ensures { Gives (λ x. (x.0, x.1.now)) result (session_at bytes.now) }
 {
     fields!(bytes; opening = opening(), progress = progress(), len = optional_number(), text = text_to_end(alloc)
@@ -202,7 +198,7 @@ fn session_of(
 }
 
 #[tactic(auto, unfolding(crate::specs::StateLineReading::slot_kind_at, crate::specs::Reading::word_value))]
-fn slot_kind(bytes: &[u8]) -> Result<(SlotKind, &[u8]), LineFault>
+fn slot_kind(bytes: &[u8]) -> Parsed<'_, SlotKind>
     ensures { Gives (λ x. (x.0, x.1.now)) result (slot_kind_at bytes.now) }
 {
     let (word, rest) = word(bytes)?;
@@ -214,7 +210,7 @@ fn slot_kind(bytes: &[u8]) -> Result<(SlotKind, &[u8]), LineFault>
 }
 
 #[tactic(auto, unfolding(crate::specs::StateLineReading::slot_at))]
-fn slot(bytes: &[u8]) -> Result<(StateLine, &[u8]), LineFault>
+fn slot(bytes: &[u8]) -> Parsed<'_, StateLine>
     ensures { Gives (λ x. (x.0, x.1.now)) result (slot_at bytes.now) }
 {
     fields!(bytes; session = number(), at = number(), what = slot_kind()
@@ -222,7 +218,7 @@ fn slot(bytes: &[u8]) -> Result<(StateLine, &[u8]), LineFault>
 }
 
 #[tactic(auto, unfolding(crate::specs::StateLineReading::queued_at, crate::specs::Reading::word_value))]
-fn queued(alloc: Global, bytes: &[u8]) -> Result<(QueuedLine, &[u8]), LineFault>
+fn queued(alloc: Global, bytes: &[u8]) -> Parsed<'_, QueuedLine>
     ensures { Gives (λ x. (x.0, x.1.now)) result (queued_at bytes.now) }
 {
     fields!(bytes; session = number(), nr = number(), offset = number(), word = word_value(&COMMAND_WORDS), lengths = lengths(),
@@ -253,7 +249,7 @@ fn queued_of(
 }
 
 #[tactic(auto, unfolding(crate::specs::StateLineReading::run_at))]
-fn run(bytes: &[u8]) -> Result<(Run, &[u8]), LineFault>
+fn run(bytes: &[u8]) -> Parsed<'_, Run>
     ensures { Gives (λ x. (x.0, x.1.now)) result (run_at bytes.now) }
 {
     fields!(bytes; session = number(), nr = number(), offset = number(), done = number(), marked = bit(), link = number()
@@ -261,7 +257,7 @@ fn run(bytes: &[u8]) -> Result<(Run, &[u8]), LineFault>
 }
 
 #[tactic(auto, unfolding(crate::specs::StateLineReading::job_at, crate::specs::Reading::word_value))]
-fn job(alloc: Global, bytes: &[u8]) -> Result<(JobLine, &[u8]), LineFault>
+fn job(alloc: Global, bytes: &[u8]) -> Parsed<'_, JobLine>
     ensures { Gives (λ x. (x.0, x.1.now)) result (job_at bytes.now) }
 {
     fields!(bytes; run = run(), word = word_value(&COMMAND_WORDS), len = number(), lengths = lengths(), text = text_to_end(alloc)

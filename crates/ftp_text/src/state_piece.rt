@@ -5,14 +5,14 @@ ghost use Rattle.ftp_text.specs.Reading.{Gives};
 ghost use Rattle.ftp_text.specs.Spelling.{bit, length_field, is_from_root};
 ghost use Rattle.ftp_text.specs.StateLineReading.{bit_field, cut_at, cut_off};
 
-use crate::fault::LineFault;
+use crate::fault::{LineFault, Parsed};
 use crate::field::small;
 use crate::writing::{put_number, put_optional_number};
 use ftp_base::Bytes;
 use std::alloc::{AllocError, Global};
 
 /// The first bytes of a text, and those behind them.
-pub(crate) fn cut_at(len: u64, text: &[u8]) -> Result<(&[u8], &[u8]), LineFault>
+pub(crate) fn cut_at(len: u64, text: &[u8]) -> Parsed<'_, &[u8]>
     ensures { Gives (λ x. (x.0.now, x.1.now)) result (cut_at len text.now) }
 {
     if len > text.len() as u64 {
@@ -23,11 +23,7 @@ pub(crate) fn cut_at(len: u64, text: &[u8]) -> Result<(&[u8], &[u8]), LineFault>
 
 /// The same, or no bytes where there is no length.
 #[tactic(auto, unfolding(crate::specs::StateLineReading::cut_off))]
-pub(crate) fn cut_off(
-    alloc: Global,
-    len: Option<u64>,
-    text: &[u8],
-) -> Result<(Option<Bytes>, &[u8]), LineFault>
+pub(crate) fn cut_off(alloc: Global, len: Option<u64>, text: &[u8]) -> Parsed<'_, Option<Bytes>>
     ensures { Gives (λ x. (x.0, x.1.now)) result (cut_off len text.now) }
 {
     match len {
@@ -48,7 +44,7 @@ pub(crate) fn is_from_root(path: &[u8]) -> bool
 
 /// 1 for yes, 0 for no.
 #[tactic(auto, unfolding(crate::specs::StateLineReading::bit_field))]
-pub(crate) fn bit(bytes: &[u8]) -> Result<(bool, &[u8]), LineFault>
+pub(crate) fn bit(bytes: &[u8]) -> Parsed<'_, bool>
     ensures { Gives (λ x. (x.0, x.1.now)) result (bit_field bytes.now) }
 {
     let (n, rest) = small(2, bytes)?;

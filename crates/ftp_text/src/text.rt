@@ -6,7 +6,7 @@ ghost use Rattle.std.specs.List.{list_any};
 ghost use Rattle.ftp_text.specs.Fields.{is_plain};
 ghost use Rattle.ftp_text.specs.Reading.{Gives, SpellsNibble, escaped_at, text_byte_at, text_of, hex_from, hex_of};
 
-use crate::fault::LineFault;
+use crate::fault::{LineFault, Parsed};
 use ftp_base::Bytes;
 use std::alloc::Global;
 
@@ -47,7 +47,7 @@ fn escaped(bytes: &[u8]) -> Option<(u8, &[u8])>
 }
 
 #[tactic(auto, unfolding(crate::specs::Reading::text_byte_at))]
-fn text_byte(bytes: &[u8]) -> Result<(u8, &[u8]), LineFault>
+fn text_byte(bytes: &[u8]) -> Parsed<'_, u8>
     ensures { Gives (λ x. (x.0, x.1.now)) result (text_byte_at bytes.now) }
 {
     match bytes {

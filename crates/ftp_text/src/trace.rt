@@ -6,13 +6,13 @@ ghost use Rattle.std.specs.Str.Parse.{digits_value};
 ghost use Rattle.ftp_text.specs.Reading.{Gives, word_as};
 ghost use Rattle.ftp_text.specs.ActionReading.{trace_of};
 
-use crate::fault::LineFault;
+use crate::fault::{LineFault, Parsed};
 use crate::field::word;
 use crate::writing::put_trace;
 use std::alloc::Global;
 
 /// A trace id.
-pub fn trace(alloc: Global, bytes: &[u8]) -> Result<(u64, &[u8]), LineFault>
+pub fn trace(alloc: Global, bytes: &[u8]) -> Parsed<'_, u64>
     ensures { Gives (λ x. (x.0, x.1.now)) result (word_as trace_of bytes.now) }
 {
     let (text, rest) = word(bytes)?;
