@@ -61,74 +61,82 @@ ended nr result bytes told reply =
           ∷ reply ∷ [];
     }
 
--- a download, as it is printed
-abbrev down : List Entry
-down =
-    asked (command.Retr (codes "a.txt")) 1 (action.Reply 1 0 (reply.CodeAndMsg code.FileStatusOkay (codes "Sending data")))
-    ∷ begun 1 11
-    ∷ ended 1 result.Sent 5 (Got (codes "/a.txt") 5) (action.Reply 1 0 (reply.CodeAndMsg code.ClosingDataConnection (codes "Successfully sent"))) ∷ []
-
-pub print-down : print down
-    ≡ codes "> 1 retr 1 a.txt\n= queued 1.1\n- reply 1 0 150 Sending data\n"
-    ++ codes "> 1 data 11 10.0.0.1:4001 50000\n= attached 1\n- start 1.1 11\n"
-    ++ codes "> 1 end 1.1\n? done sent 5 -\n= finished\n- completed 1.1 delivered\n- notify 1 2 0x1 got 5 3 6 ann/a.txt\n- reply 1 0 226 Successfully sent\n"
+-- entries, and how they are printed
+pub printed : AreSpelled print
+    -- a download
+    ((
+      asked (command.Retr (codes "a.txt")) 1 (action.Reply 1 0 (reply.CodeAndMsg code.FileStatusOkay (codes "Sending data")))
+          ∷ begun 1 11
+          ∷ ended 1 result.Sent 5 (Got (codes "/a.txt") 5) (action.Reply 1 0 (reply.CodeAndMsg code.ClosingDataConnection (codes "Successfully sent"))) ∷ [],
+      codes "> 1 retr 1 a.txt\n= queued 1.1\n- reply 1 0 150 Sending data\n"
+          ++ codes "> 1 data 11 10.0.0.1:4001 50000\n= attached 1\n- start 1.1 11\n"
+          ++ codes "> 1 end 1.1\n? done sent 5 -\n= finished\n- completed 1.1 delivered\n- notify 1 2 0x1 got 5 3 6 ann/a.txt\n- reply 1 0 226 Successfully sent\n",
+    )
+    -- an upload, more bytes at its end, and a download
+    ∷ (
+      asked (command.Stor (codes "a.txt")) 1 (action.Reply 1 0 (reply.CodeAndMsg code.FileStatusOkay (codes "Ready to receive data")))
+          ∷ begun 1 11
+          ∷ ended 1 result.Written 5 (Put (codes "/a.txt") 5) (action.Reply 1 0 (reply.CodeAndMsg code.ClosingDataConnection (codes "File successfully written")))
+          ∷ asked (command.Appe (codes "a.txt")) 2 (action.Reply 1 0 (reply.CodeAndMsg code.FileStatusOkay (codes "Ready to receive data")))
+          ∷ begun 2 12
+          ∷ ended 2 result.Written 6 (Put (codes "/a.txt") 6) (action.Reply 1 0 (reply.CodeAndMsg code.ClosingDataConnection (codes "File successfully written")))
+          ∷ asked (command.Retr (codes "a.txt")) 3 (action.Reply 1 0 (reply.CodeAndMsg code.FileStatusOkay (codes "Sending data")))
+          ∷ begun 3 13
+          ∷ ended 3 result.Sent 11 (Got (codes "/a.txt") 11) (action.Reply 1 0 (reply.CodeAndMsg code.ClosingDataConnection (codes "Successfully sent"))) ∷ [],
+      codes "> 1 stor 1 a.txt\n= queued 1.1\n- reply 1 0 150 Ready to receive data\n"
+          ++ codes "> 1 data 11 10.0.0.1:4001 50000\n= attached 1\n- start 1.1 11\n"
+          ++ codes "> 1 end 1.1\n? done written 5 -\n= finished\n- completed 1.1 delivered\n- notify 1 2 0x1 put 5 3 6 ann/a.txt\n- reply 1 0 226 File successfully written\n"
+          ++ codes "> 1 appe 1 a.txt\n= queued 1.2\n- reply 1 0 150 Ready to receive data\n"
+          ++ codes "> 1 data 12 10.0.0.1:4001 50000\n= attached 1\n- start 1.2 12\n"
+          ++ codes "> 1 end 1.2\n? done written 6 -\n= finished\n- completed 1.2 delivered\n- notify 1 3 0x1 put 6 3 6 ann/a.txt\n- reply 1 0 226 File successfully written\n"
+          ++ codes "> 1 retr 1 a.txt\n= queued 1.3\n- reply 1 0 150 Sending data\n"
+          ++ codes "> 1 data 13 10.0.0.1:4001 50000\n= attached 1\n- start 1.3 13\n"
+          ++ codes "> 1 end 1.3\n? done sent 11 -\n= finished\n- completed 1.3 delivered\n- notify 1 4 0x1 got 11 3 6 ann/a.txt\n- reply 1 0 226 Successfully sent\n",
+    )
+    -- a listing whose link fails, one that nobody is told of, and one without a link
+    ∷ (
+      record {
+        event = later (kind.End (transfer 1));
+        answer = answer.Done (record { result = result.WriteFailed; bytes = 3; fault = Some link.Reset });
+        decision = decision.Finished;
+        actions = action.Completed (transfer 1) true ∷ action.Reply 1 0 (reply.CodeAndMsg code.TransientFileError (codes "Failed to write file")) ∷ [];
+      }
+          ∷ record {
+            event = later (kind.End (transfer 2));
+            answer = answer.Done (record { result = result.Listed; bytes = 64; fault = None });
+            decision = decision.Finished;
+            actions = action.Completed (transfer 2) false ∷ [];
+          }
+          ∷ record {
+            event = later (kind.Transfer 1 (command.List None None));
+            answer = answer.None;
+            decision = decision.NoSlot;
+            actions = action.Reply 1 0 (reply.CodeAndMsg code.CantOpenDataConnection (codes "No data connection established")) ∷ [];
+          } ∷ [],
+      codes "> 1 end 1.1\n? done writefailed 3 reset\n= finished\n- completed 1.1 delivered\n- reply 1 0 450 Failed to write file\n"
+          ++ codes "> 1 end 1.2\n? done listed 64 -\n= finished\n- completed 1.2 lost\n"
+          ++ codes "> 1 list 1\n= noslot\n- reply 1 0 425 No data connection established\n",
+    )
+    -- a piece that moved, an ABOR, and the piece that is cut
+    ∷ (
+      record { event = later (kind.Piece (transfer 1)); answer = answer.Moved 8192; decision = decision.Moved; actions = [] }
+          ∷ record { event = later (kind.Abor 1); answer = answer.None; decision = decision.Aborting; actions = [] }
+          ∷ record {
+            event = later (kind.Piece (transfer 1));
+            answer = answer.None;
+            decision = decision.Cut;
+            actions =
+                action.Cancelled (transfer 1)
+                ∷ action.Reply 1 0 (reply.CodeAndMsg code.ConnectionClosed (codes "Datachannel unexpectedly closed"))
+                ∷ action.Close 11
+                ∷ action.Reply 1 0 (reply.CodeAndMsg code.ClosingDataConnection (codes "Closed data channel")) ∷ [];
+          } ∷ [],
+      codes "> 1 piece 1.1\n? moved 8192\n= moved\n> 1 abor 1\n= aborting\n"
+          ++ codes "> 1 piece 1.1\n= cut\n- cancelled 1.1\n- reply 1 0 426 Datachannel unexpectedly closed\n- close 11\n"
+          ++ codes "- reply 1 0 226 Closed data channel\n",
+    ) ∷ [])
 unfolding digits
-print-down = refl
-
--- an upload, more bytes at its end, and a download, as they are printed
-abbrev up_and_down : List Entry
-up_and_down =
-    asked (command.Stor (codes "a.txt")) 1 (action.Reply 1 0 (reply.CodeAndMsg code.FileStatusOkay (codes "Ready to receive data")))
-    ∷ begun 1 11
-    ∷ ended 1 result.Written 5 (Put (codes "/a.txt") 5) (action.Reply 1 0 (reply.CodeAndMsg code.ClosingDataConnection (codes "File successfully written")))
-    ∷ asked (command.Appe (codes "a.txt")) 2 (action.Reply 1 0 (reply.CodeAndMsg code.FileStatusOkay (codes "Ready to receive data")))
-    ∷ begun 2 12
-    ∷ ended 2 result.Written 6 (Put (codes "/a.txt") 6) (action.Reply 1 0 (reply.CodeAndMsg code.ClosingDataConnection (codes "File successfully written")))
-    ∷ asked (command.Retr (codes "a.txt")) 3 (action.Reply 1 0 (reply.CodeAndMsg code.FileStatusOkay (codes "Sending data")))
-    ∷ begun 3 13
-    ∷ ended 3 result.Sent 11 (Got (codes "/a.txt") 11) (action.Reply 1 0 (reply.CodeAndMsg code.ClosingDataConnection (codes "Successfully sent"))) ∷ []
-
-pub print-up_and_down : print up_and_down
-    ≡ codes "> 1 stor 1 a.txt\n= queued 1.1\n- reply 1 0 150 Ready to receive data\n"
-    ++ codes "> 1 data 11 10.0.0.1:4001 50000\n= attached 1\n- start 1.1 11\n"
-    ++ codes "> 1 end 1.1\n? done written 5 -\n= finished\n- completed 1.1 delivered\n- notify 1 2 0x1 put 5 3 6 ann/a.txt\n- reply 1 0 226 File successfully written\n"
-    ++ codes "> 1 appe 1 a.txt\n= queued 1.2\n- reply 1 0 150 Ready to receive data\n"
-    ++ codes "> 1 data 12 10.0.0.1:4001 50000\n= attached 1\n- start 1.2 12\n"
-    ++ codes "> 1 end 1.2\n? done written 6 -\n= finished\n- completed 1.2 delivered\n- notify 1 3 0x1 put 6 3 6 ann/a.txt\n- reply 1 0 226 File successfully written\n"
-    ++ codes "> 1 retr 1 a.txt\n= queued 1.3\n- reply 1 0 150 Sending data\n"
-    ++ codes "> 1 data 13 10.0.0.1:4001 50000\n= attached 1\n- start 1.3 13\n"
-    ++ codes "> 1 end 1.3\n? done sent 11 -\n= finished\n- completed 1.3 delivered\n- notify 1 4 0x1 got 11 3 6 ann/a.txt\n- reply 1 0 226 Successfully sent\n"
-unfolding digits
-print-up_and_down = refl
-
--- a listing whose link fails, one that nobody is told of, and one without a link, as they are printed
-abbrev failing : List Entry
-failing =
-    record {
-      event = later (kind.End (transfer 1));
-      answer = answer.Done (record { result = result.WriteFailed; bytes = 3; fault = Some link.Reset });
-      decision = decision.Finished;
-      actions = action.Completed (transfer 1) true ∷ action.Reply 1 0 (reply.CodeAndMsg code.TransientFileError (codes "Failed to write file")) ∷ [];
-    }
-    ∷ record {
-      event = later (kind.End (transfer 2));
-      answer = answer.Done (record { result = result.Listed; bytes = 64; fault = None });
-      decision = decision.Finished;
-      actions = action.Completed (transfer 2) false ∷ [];
-    }
-    ∷ record {
-      event = later (kind.Transfer 1 (command.List None None));
-      answer = answer.None;
-      decision = decision.NoSlot;
-      actions = action.Reply 1 0 (reply.CodeAndMsg code.CantOpenDataConnection (codes "No data connection established")) ∷ [];
-    } ∷ []
-
-pub print-failing : print failing
-    ≡ codes "> 1 end 1.1\n? done writefailed 3 reset\n= finished\n- completed 1.1 delivered\n- reply 1 0 450 Failed to write file\n"
-    ++ codes "> 1 end 1.2\n? done listed 64 -\n= finished\n- completed 1.2 lost\n"
-    ++ codes "> 1 list 1\n= noslot\n- reply 1 0 425 No data connection established\n"
-unfolding digits
-print-failing = refl
+printed = refl
 
 pub spelled_answers : AreSpelled answer_line
     ((answer.Done (record { result = result.Refused error.PermanentFileNotAvailable; bytes = 0; fault = None }), codes "? done permanentfile 0 -\n")
@@ -161,29 +169,6 @@ pub bad_lines : AreBad event_of
     ∷ codes "1 stou 1 0000000000000000000000000000000A" ∷ [])
 unfolding event_of word_value read_as number_at word_at text_field digits hex_word_at hex_digits
 bad_lines = refl
-
--- a piece that moved, an ABOR, and the piece that is cut, as they are printed
-abbrev in_pieces : List Entry
-in_pieces =
-    record { event = later (kind.Piece (transfer 1)); answer = answer.Moved 8192; decision = decision.Moved; actions = [] }
-    ∷ record { event = later (kind.Abor 1); answer = answer.None; decision = decision.Aborting; actions = [] }
-    ∷ record {
-      event = later (kind.Piece (transfer 1));
-      answer = answer.None;
-      decision = decision.Cut;
-      actions =
-          action.Cancelled (transfer 1)
-          ∷ action.Reply 1 0 (reply.CodeAndMsg code.ConnectionClosed (codes "Datachannel unexpectedly closed"))
-          ∷ action.Close 11
-          ∷ action.Reply 1 0 (reply.CodeAndMsg code.ClosingDataConnection (codes "Closed data channel")) ∷ [];
-    } ∷ []
-
-pub print-in_pieces : print in_pieces
-    ≡ codes "> 1 piece 1.1\n? moved 8192\n= moved\n> 1 abor 1\n= aborting\n"
-    ++ codes "> 1 piece 1.1\n= cut\n- cancelled 1.1\n- reply 1 0 426 Datachannel unexpectedly closed\n- close 11\n"
-    ++ codes "- reply 1 0 226 Closed data channel\n"
-unfolding digits
-print-in_pieces = refl
 
 -- ---- lines that are read
 
