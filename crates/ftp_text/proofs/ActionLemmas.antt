@@ -1,7 +1,6 @@
 -- Each action is read exactly.
-use Rattle.std.proofs.Common.{◌≡◌, ℕ, ◌^◌, ◌<◌, true, false, List, [], ◌∷◌, ◌++◌, Option, Some, None, refl, ap, ◌∙◌, append_assoc, arith}
+use Rattle.std.proofs.Common.{◌≡◌, ℕ, ◌^◌, ◌<◌, true, false, List, [], ◌∷◌, ◌++◌, Some, refl, ap, ◌∙◌, append_assoc, arith}
 use Rattle.std.specs.Prelude.{Bool, codes}
-use Rattle.ftp_base.specs.declared.reply.Reply.{Reply}
 use Rattle.ftp_base.specs.declared.reply.Reply.TheVariants as reply
 use Rattle.ftp_base.specs.declared.reply.ReplyCode.{ReplyCode}
 use Rattle.ftp_base.specs.Reply.{code_text}
@@ -9,24 +8,20 @@ use Rattle.ftp_events.specs.declared.action.Action.{Action}
 use Rattle.ftp_events.specs.declared.action.Action.TheVariants as action
 use Rattle.ftp_text.specs.Fields.{field, number, ticket, escape, IsNumber, IsText}
 use Rattle.ftp_text.specs.Message.{reply_codes}
-use Rattle.ftp_text.specs.Reading.{pair, find_word, word_value, number_field, small_field, ticket_field, text_field}
-use Rattle.ftp_text.proofs.Exact.{Ends, IsNil, Ends-from_nil, IsExact, pair_exact, made_takes, made_again, behind_text_exact, table_exact}
+use Rattle.ftp_text.specs.Reading.{pair, word_value, number_field, small_field, ticket_field, text_field}
+use Rattle.ftp_text.proofs.Exact.{Ends, IsNil, Ends-from_nil, IsExact, pair_exact, made_takes, made_again, table_exact}
 use Rattle.ftp_text.proofs.FieldLemmas.{number_is, code_is, small_is, ticket_is}
 use Rattle.ftp_text.proofs.Values.{text_exact}
 use Rattle.ftp_text.specs.Printing.{notify_fields, reply_fields, delivered_text, action_fields}
 use Rattle.ftp_text.specs.LineWords.{ActionWord}
 use Rattle.ftp_text.specs.LineWords as word
 use Rattle.ftp_text.specs.LogLines.{IsAction}
-use Rattle.ftp_text.specs.ActionReading.{notify_at, action_word_text, action_words, deliveries, completed_at, start_at, reply_at, action_behind, action_at}
+use Rattle.ftp_text.specs.ActionReading.{action_word_text, action_words, deliveries, completed_at, start_at, reply_at, action_behind, action_at}
 use Rattle.ftp_text.proofs.NoticeLemmas.{notify_takes, notify_again}
-use Rattle.ftp_text.proofs.WordThen.{Behind, word_then, exact_spelled}
-
-delivery_found : (d : Bool) → find_word delivered_text deliveries (delivered_text d) ≡ Some d
-delivery_found true = refl
-delivery_found false = refl
+use Rattle.ftp_text.proofs.WordThen.{marked_exact}
 
 delivery_is : IsExact (λ (d : Bool). field (delivered_text d)) (λ d. Unit {0}) Ends (word_value delivered_text deliveries)
-delivery_is = table_exact delivered_text deliveries refl delivery_found
+delivery_is = table_exact delivered_text deliveries refl (elim [ true ↦ refl | false ↦ refl ])
 
 -- ---- the fields of actions
 
@@ -55,13 +50,6 @@ replied_is =
     (λ y rest h. refl)
 
 -- ---- actions, by their words
-
-action_word_found : (w : ActionWord) → find_word action_word_text action_words (action_word_text w) ≡ Some w
-action_word_found word.Completed = refl
-action_word_found _ = refl
-
-action_word_is : IsExact (λ (w : ActionWord). 32 ∷ action_word_text w) (λ w. Unit {0}) Ends (word_value action_word_text action_words)
-action_word_is = table_exact action_word_text action_words refl action_word_found
 
 abbrev word_for : Action → ActionWord
 word_for (action.Completed t delivered) = word.Completed
@@ -136,7 +124,5 @@ spelled (action.Start t n) fits = refl
 pub action_is : IsExact action_fields IsAction IsNil action_at
 unfolding action_at
 action_is =
-    exact_spelled
-    (behind_text_exact (codes "-")
-    (word_then action_words action_word_is (λ a fits. tt) (record { takes = action_takes; again = action_again; starts = action_starts })))
-    spelled
+    marked_exact (codes "-") action_words (table_exact action_word_text action_words refl (elim [ word.Completed ↦ refl | _ ↦ refl ])) (λ a fits. tt)
+    (record { takes = action_takes; again = action_again; starts = action_starts }) spelled

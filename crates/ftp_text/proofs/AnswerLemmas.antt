@@ -1,5 +1,5 @@
 -- Each answer is read exactly.
-use Rattle.std.proofs.Common.{◌≡◌, ℕ, ◌+◌, ◌*◌, ◌/◌, ◌%◌, ◌^◌, ◌<◌, Bool, true, false, cond, List, [], ◌∷◌, ◌++◌, length, Option, Some, None, refl, sym, ap, ◌∙◌, append_assoc, arith}
+use Rattle.std.proofs.Common.{◌≡◌, ℕ, ◌/◌, ◌%◌, ◌^◌, ◌<◌, Bool, true, false, cond, List, [], ◌∷◌, ◌++◌, length, Option, Some, None, refl, sym, ap, ◌∙◌, append_assoc, arith}
 use Rattle.std.specs.Prelude.{codes, Result, Ok, Err}
 use Rattle.std.specs.Fmt.{decimal}
 use Rattle.std.specs.Str.Parse.{AllDigits}
@@ -22,8 +22,8 @@ use Rattle.ftp_transfer.specs.declared.job.Outcome.{Outcome}
 use Rattle.ftp_events.specs.declared.event.Answer.{Answer}
 use Rattle.ftp_events.specs.declared.event.Answer.TheVariants as answer
 use Rattle.ftp_text.specs.Fields.{field, number, dotted, ip_text, address_text, optional, fault_text, proxy_error_text, IsAddress, IsNumber}
-use Rattle.ftp_text.specs.Reading.{pair, find_word, word_value, number_field, address_field, proxy_errors}
-use Rattle.ftp_text.proofs.Exact.{Ends, IsNil, Ends-from_nil, IsExact, exact_weaker, pair_exact, made_exact, made_takes, made_again, behind_text_exact, table_exact}
+use Rattle.ftp_text.specs.Reading.{pair, word_value, address_field}
+use Rattle.ftp_text.proofs.Exact.{Ends, IsNil, Ends-from_nil, IsExact, pair_exact, made_exact, made_takes, made_again, table_exact}
 use Rattle.ftp_text.proofs.FieldLemmas.{number_is, address_is, proxy_error_is}
 use Rattle.ftp_text.proofs.Numerals.{own}
 use Rattle.ftp_text.specs.Printing.{result_text, header_fields, outcome_fields}
@@ -31,7 +31,7 @@ use Rattle.ftp_text.specs.LineWords.{AnswerWord}
 use Rattle.ftp_text.specs.LineWords as word
 use Rattle.ftp_text.specs.LogLines.{answer_word_text, maybe_fault_text, answer_text, IsAnswer}
 use Rattle.ftp_text.specs.AnswerReading.{answer_words, results, maybe_faults, has_letter, addresses_at, error_at, header_at, outcome_at, answer_behind, answer_at}
-use Rattle.ftp_text.proofs.WordThen.{Behind, word_then, exact_spelled}
+use Rattle.ftp_text.proofs.WordThen.{exact_spelled, marked_exact}
 
 -- ---- the header of a proxy
 
@@ -89,25 +89,15 @@ header_is = record { takes = λ bytes y e. header_cases (has_letter bytes) bytes
 
 -- ---- the end of a transfer
 
-result_found : (r : Completion) → find_word result_text results (result_text r) ≡ Some r
-result_found (result.Refused error.TransientFileNotAvailable) = refl
-result_found (result.Refused _) = refl
-result_found _ = refl
-
 result_is : IsExact (λ (r : Completion). field (result_text r)) (λ r. Unit {0}) Ends (word_value result_text results)
-result_is = table_exact result_text results refl result_found
-
-maybe_fault_found : (f : Option LinkFault) → find_word maybe_fault_text maybe_faults (maybe_fault_text f) ≡ Some f
-maybe_fault_found (Some link.Reset) = refl
-maybe_fault_found (Some _) = refl
-maybe_fault_found None = refl
+result_is = table_exact result_text results refl (elim [ result.Refused error.TransientFileNotAvailable ↦ refl | result.Refused _ ↦ refl | _ ↦ refl ])
 
 maybe_fault-optional : (f : Option LinkFault) → field (maybe_fault_text f) ≡ optional fault_text f
 maybe_fault-optional None = refl
 maybe_fault-optional (Some f) = refl
 
 maybe_fault_is : IsExact (optional fault_text) (λ f. Unit {0}) Ends (word_value maybe_fault_text maybe_faults)
-maybe_fault_is = exact_spelled (table_exact maybe_fault_text maybe_faults refl maybe_fault_found) (λ f fits. maybe_fault-optional f)
+maybe_fault_is = exact_spelled (table_exact maybe_fault_text maybe_faults refl (elim [ Some link.Reset ↦ refl | Some _ ↦ refl | None ↦ refl ])) (λ f fits. maybe_fault-optional f)
 
 outcome_is : IsExact outcome_fields (λ (o : Outcome). IsNumber o.bytes) Ends outcome_at
 unfolding outcome_at
@@ -123,13 +113,6 @@ outcome_is =
       fault_starts (Some f) rest = refl
 
 -- ---- answers, by their words
-
-answer_word_found : (w : AnswerWord) → find_word answer_word_text answer_words (answer_word_text w) ≡ Some w
-answer_word_found word.Header = refl
-answer_word_found _ = refl
-
-answer_word_is : IsExact (λ (w : AnswerWord). 32 ∷ answer_word_text w) (λ w. Unit {0}) Ends (word_value answer_word_text answer_words)
-answer_word_is = table_exact answer_word_text answer_words refl answer_word_found
 
 -- the word of an answer; that of none is never asked for
 abbrev word_for : Answer → AnswerWord
@@ -184,7 +167,5 @@ spelled (answer.Moved bytes) fits = refl
 pub answer_is : IsExact answer_text IsAnswer IsNil answer_at
 unfolding answer_at
 answer_is =
-    exact_spelled
-    (behind_text_exact (codes "?")
-    (word_then answer_words answer_word_is (λ a fits. tt) (record { takes = answer_takes; again = answer_again; starts = answer_starts })))
-    spelled
+    marked_exact (codes "?") answer_words (table_exact answer_word_text answer_words refl (elim [ word.Header ↦ refl | _ ↦ refl ])) (λ a fits. tt)
+    (record { takes = answer_takes; again = answer_again; starts = answer_starts }) spelled

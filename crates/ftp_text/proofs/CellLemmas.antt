@@ -2,7 +2,7 @@
 use Rattle.std.proofs.Common.{◌≡◌, ℕ, ◌<◌, Bool, true, false, cond, eqb, List, ◌∷◌, ◌++◌, Option, Some, None, refl, ap, arith}
 use Rattle.std.proofs.lemmas.Bool.Decides.{nat_tests}
 use Rattle.ftp_text.specs.Fields.{field, number, optional, Each, IsNumber}
-use Rattle.ftp_text.specs.Reading.{find_word, word_value}
+use Rattle.ftp_text.specs.Reading.{word_value}
 use Rattle.ftp_text.proofs.Exact.{Ends, IsExact, pair_exact, made_exact, table_exact}
 use Rattle.ftp_text.proofs.FieldLemmas.{small_is, optional_number_is, optional_starts}
 use Rattle.std.specs.Fmt.{decimal}
@@ -17,33 +17,17 @@ use Rattle.ftp_text.specs.StateLineReading.{line_words, login_states, slot_words
 
 -- ---- words
 
-line_word_found : (w : LineWord) → find_word line_word_text line_words (line_word_text w) ≡ Some w
-line_word_found word.Checkpoint = refl
-line_word_found _ = refl
-
 pub line_word_is : IsExact (λ (w : LineWord). 32 ∷ line_word_text w) (λ w. Unit {0}) Ends (word_value line_word_text line_words)
-line_word_is = table_exact line_word_text line_words refl line_word_found
-
-login_found : (w : LoginState) → find_word login_state_text login_states (login_state_text w) ≡ Some w
-login_found login.New = refl
-login_found _ = refl
+line_word_is = table_exact line_word_text line_words refl (elim [ word.Checkpoint ↦ refl | _ ↦ refl ])
 
 pub login_is : IsExact (λ (w : LoginState). field (login_state_text w)) (λ w. Unit {0}) Ends (word_value login_state_text login_states)
-login_is = table_exact login_state_text login_states refl login_found
-
-slot_word_found : (w : SlotWord) → find_word slot_word_text slot_words (slot_word_text w) ≡ Some w
-slot_word_found word.Waits = refl
-slot_word_found word.Link = refl
+login_is = table_exact login_state_text login_states refl (elim [ login.New ↦ refl | _ ↦ refl ])
 
 pub slot_word_is : IsExact (λ (w : SlotWord). field (slot_word_text w)) (λ w. Unit {0}) Ends (word_value slot_word_text slot_words)
-slot_word_is = table_exact slot_word_text slot_words refl slot_word_found
-
-command_word_found : (w : CommandWord) → find_word command_word_text command_words (command_word_text w) ≡ Some w
-command_word_found command_word.Retr = refl
-command_word_found _ = refl
+slot_word_is = table_exact slot_word_text slot_words refl (elim [ word.Waits ↦ refl | word.Link ↦ refl ])
 
 pub command_word_is : IsExact (λ (w : CommandWord). field (command_word_text w)) (λ w. Unit {0}) Ends command_word_field
-command_word_is = table_exact command_word_text command_words refl command_word_found
+command_word_is = table_exact command_word_text command_words refl (elim [ command_word.Retr ↦ refl | _ ↦ refl ])
 
 -- ---- fields
 

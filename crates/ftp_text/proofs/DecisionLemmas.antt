@@ -5,22 +5,17 @@ use Rattle.ftp_base.specs.declared.login.LockState.{LockState}
 use Rattle.ftp_base.specs.declared.login.LockState.TheVariants as lock
 use Rattle.ftp_events.specs.declared.decision.Decision.{Decision}
 use Rattle.ftp_events.specs.declared.decision.Decision.TheVariants as decision
-use Rattle.ftp_text.specs.Fields.{field, number, kind_text, IsNumber}
-use Rattle.ftp_text.specs.Reading.{pair, find_word, word_value, kinds}
-use Rattle.ftp_text.proofs.Exact.{Ends, IsNil, Ends-from_nil, IsExact, is_word_byte, some_is, find_takes, find_passes, pair_exact, made_takes, made_again, behind_text_exact, word_exact, table_exact}
+use Rattle.ftp_text.specs.Fields.{field, number}
+use Rattle.ftp_text.specs.Reading.{find_word, word_value}
+use Rattle.ftp_text.proofs.Exact.{Ends, IsNil, Ends-from_nil, IsExact, is_word_byte, some_is, find_takes, find_passes, pair_exact, made_takes, made_again, word_exact, table_exact}
 use Rattle.ftp_text.proofs.FieldLemmas.{number_is, kind_is, port_is, small_is, ticket_is, proxy_error_is}
 use Rattle.ftp_text.specs.Printing.{decision_text, decision_fields, lock_text}
 use Rattle.ftp_text.specs.LogLines.{decided_text, IsDecision}
 use Rattle.ftp_text.specs.DecisionReading.{heads, head, locks, lock_and_delay_at, decision_behind, decision_at}
-use Rattle.ftp_text.proofs.WordThen.{Behind, word_then, exact_spelled}
-
-lock_found : (l : Option LockState) → find_word lock_text locks (lock_text l) ≡ Some l
-lock_found None = refl
-lock_found (Some lock.MaxFailuresReached) = refl
-lock_found (Some lock.AlreadyLocked) = refl
+use Rattle.ftp_text.proofs.WordThen.{marked_exact}
 
 lock_is : IsExact (λ (l : Option LockState). field (lock_text l)) (λ l. Unit {0}) Ends (word_value lock_text locks)
-lock_is = table_exact lock_text locks refl lock_found
+lock_is = table_exact lock_text locks refl (elim [ None ↦ refl | Some lock.MaxFailuresReached ↦ refl | Some lock.AlreadyLocked ↦ refl ])
 
 abbrev LockAndDelay : Type 0
 LockAndDelay = Option LockState × ℕ
@@ -94,8 +89,6 @@ head_is =
 pub decision_is : IsExact decided_text IsDecision IsNil decision_at
 unfolding decision_at
 decision_is =
-    exact_spelled
-    (behind_text_exact (codes "=")
-    (word_then heads head_is (λ d fits. ap (find_word decision_text heads) (head-text d) ∙ head_found d)
-    (record { takes = decision_takes; again = decision_again; starts = decision_starts })))
+    marked_exact (codes "=") heads head_is (λ d fits. ap (find_word decision_text heads) (head-text d) ∙ head_found d)
+    (record { takes = decision_takes; again = decision_again; starts = decision_starts })
     (λ d fits. ap (λ (t : List ℕ). 61 ∷ field t ++ decision_fields d) (head-text d))

@@ -15,21 +15,17 @@ use Rattle.ftp_text.specs.Fields.{field, number}
 use Rattle.ftp_text.specs.Forms.{Values, all_spelled}
 use Rattle.ftp_text.specs.Message.{message_fields, message_at}
 use Rattle.ftp_text.specs.Events.{event_word_text, form, told, word_field, told_text, kind_fields, event_line, HasNoOptions, InRange, IsKind, IsEvent}
-use Rattle.ftp_text.specs.Reading.{◌>>=◌, Reader, number_at, find_word, word_value, word_at}
+use Rattle.ftp_text.specs.Reading.{◌>>=◌, Reader, number_at, word_value, word_at}
 use Rattle.ftp_text.specs.EventReading.{event_words, event_word_field, kind_of, read_as, fields_at, event_of}
-use Rattle.ftp_text.proofs.Exact.{Ends, IsNil, IsExact, bind_ok, some_is, made_takes, made_again, table_exact, number_exact}
+use Rattle.ftp_text.proofs.Exact.{Ends, IsNil, IsExact, bind_ok, made_takes, made_again, table_exact, number_exact}
 use Rattle.ftp_text.proofs.LineLaws.{ReadsLines, spelled_lines}
 use Rattle.ftp_text.proofs.FieldLemmas.{number_is}
 use Rattle.ftp_text.proofs.FormLemmas.{form_starts, form_exact}
 
 -- ---- words
 
-event_word_found : (w : EventWord) → find_word event_word_text event_words (event_word_text w) ≡ Some w
-event_word_found word.Connect = refl
-event_word_found _ = refl
-
 event_word_is : IsExact (λ (w : EventWord). field (event_word_text w)) (λ w. Unit {0}) Ends event_word_field
-event_word_is = table_exact event_word_text event_words refl event_word_found
+event_word_is = table_exact event_word_text event_words refl (elim [ word.Connect ↦ refl | _ ↦ refl ])
 
 -- ---- kinds, by their words
 

@@ -43,33 +43,17 @@ ip_is = exact_weaker (behind_exact 32 ip_exact) NoDigit-from_ends
 pub optional_ip_is : IsExact (optional ip_text) (Each IsIp) Ends (optional_field ip_at)
 optional_ip_is = exact_weaker (optional_exact ip_exact (λ ip rest fits. begins_ip 45 ip rest refl refl)) NoDigit-from_ends
 
-answer_found : (v : AuthAnswer) → find_word answer_text answers (answer_text v) ≡ Some v
-answer_found auth.Good = refl
-answer_found _ = refl
-
 pub answer_is : IsExact (λ (v : AuthAnswer). field (answer_text v)) (λ v. Unit {0}) Ends answer_field
-answer_is = table_exact answer_text answers refl answer_found
-
-kind_found : (k : ErrorKind) → find_word kind_text kinds (kind_text k) ≡ Some k
-kind_found error.TransientFileNotAvailable = refl
-kind_found _ = refl
+answer_is = table_exact answer_text answers refl (elim [ auth.Good ↦ refl | _ ↦ refl ])
 
 pub kind_is : IsExact (λ (k : ErrorKind). field (kind_text k)) (λ k. Unit {0}) Ends (word_value kind_text kinds)
-kind_is = table_exact kind_text kinds refl kind_found
-
-code_found : (c : ReplyCode) → find_word code_text reply_codes (code_text c) ≡ Some c
-code_found code.FileStatusOkay = refl
-code_found _ = refl
+kind_is = table_exact kind_text kinds refl (elim [ error.TransientFileNotAvailable ↦ refl | _ ↦ refl ])
 
 pub code_is : IsExact (λ (c : ReplyCode). field (code_text c)) (λ c. Unit {0}) Ends (word_value code_text reply_codes)
-code_is = table_exact code_text reply_codes refl code_found
-
-refusal_found : (v : Option ErrorKind) → find_word refusal_text refusals (refusal_text v) ≡ Some v
-refusal_found (Some error.TransientFileNotAvailable) = refl
-refusal_found _ = refl
+code_is = table_exact code_text reply_codes refl (elim [ code.FileStatusOkay ↦ refl | _ ↦ refl ])
 
 pub refusal_is : IsExact (λ (v : Option ErrorKind). field (refusal_text v)) (λ v. Unit {0}) Ends refusal_field
-refusal_is = table_exact refusal_text refusals refl refusal_found
+refusal_is = table_exact refusal_text refusals refl (elim [ Some error.TransientFileNotAvailable ↦ refl | _ ↦ refl ])
 
 pub optional_number_is : IsExact (optional decimal) (Each IsNumber) Ends (optional_field number_at)
 optional_number_is = exact_weaker (optional_exact number_exact (λ n rest lt. begins_decimal 45 n rest refl lt)) NoDigit-from_ends
@@ -94,12 +78,8 @@ ticket_is = exact_weaker (pair_exact (behind_exact 32 number_exact) (behind_exac
 pub hex_word_is : IsExact (λ n. field (hex_digits 32 n)) (λ n. n < 2 ^ 128) Ends hex_word_field
 hex_word_is = exact_weaker (behind_exact 32 hex_word_exact) (λ rest h. tt)
 
-proxy_error_found : (e : ProxyError) → find_word proxy_error_text proxy_errors (proxy_error_text e) ≡ Some e
-proxy_error_found (proxy.ReadError read.UnexpectedEof) = refl
-proxy_error_found _ = refl
-
 pub proxy_error_is : IsExact (λ (e : ProxyError). field (proxy_error_text e)) (λ e. Unit {0}) Ends (word_value proxy_error_text proxy_errors)
-proxy_error_is = table_exact proxy_error_text proxy_errors refl proxy_error_found
+proxy_error_is = table_exact proxy_error_text proxy_errors refl (elim [ proxy.ReadError read.UnexpectedEof ↦ refl | _ ↦ refl ])
 
 -- ---- the calls that fail
 

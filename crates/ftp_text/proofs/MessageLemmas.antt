@@ -1,18 +1,16 @@
 -- Each message that has a word is read exactly.
-use Rattle.std.proofs.Common.{◌≡◌, ℕ, ◌≤◌, true, List, [], ◌∷◌, ◌++◌, length, take, drop, Some, refl, sym, ap, subst, ◌∙◌, append_assoc, arith}
+use Rattle.std.proofs.Common.{◌≡◌, ℕ, ◌≤◌, true, List, [], ◌++◌, length, take, drop, Some, refl, sym, ap, subst, ◌∙◌, append_assoc, arith}
 use Rattle.std.proofs.lemmas.Bool.Decides.{nat_tests}
 use Rattle.std.proofs.lemmas.List.{length-append, length-take-le, take-append-drop, take_at, drop_at}
 use Rattle.ftp_base.specs.declared.error_kind.ErrorKind.{ErrorKind}
 use Rattle.ftp_base.specs.declared.message.ControlChanMsg.{ControlChanMsg}
 use Rattle.ftp_base.specs.declared.message.ControlChanMsg.TheVariants as message
-use Rattle.ftp_base.specs.declared.reply.ReplyCode.{ReplyCode}
 use Rattle.ftp_base.specs.declared.reply.Reply.TheVariants as reply
-use Rattle.ftp_base.specs.Reply.{code_text}
 use Rattle.ftp_text.specs.LineWords.{MessageWord}
 use Rattle.ftp_text.specs.LineWords as word
 use Rattle.ftp_text.specs.Fields.{field, number, escape, kind_text, IsText, IsNumber}
-use Rattle.ftp_text.specs.Reading.{find_word, word_value, kinds}
-use Rattle.ftp_text.specs.Message.{message_word_text, message_word, two_paths, code_and_text, message_fields, ArePaths, IsMessage, message_words, reply_codes, has_first, cut, two_paths_at, code_and_text_at, nothing_more, message_behind, message_at}
+use Rattle.ftp_text.specs.Reading.{word_value, kinds}
+use Rattle.ftp_text.specs.Message.{message_word_text, message_word, two_paths, code_and_text, message_fields, ArePaths, IsMessage, message_words, has_first, cut, two_paths_at, code_and_text_at, nothing_more, message_behind, message_at}
 use Rattle.ftp_text.proofs.Lists.{text-append, text-parts}
 use Rattle.ftp_text.proofs.Exact.{Ends, IsNil, Ends-from_nil, IsExact, exact_weaker, bind_ok, some_is, pair_exact, tested_exact, made_exact, made_takes, made_again, table_exact}
 use Rattle.ftp_text.proofs.Values.{text_exact}
@@ -20,12 +18,8 @@ use Rattle.ftp_text.proofs.FieldLemmas.{number_is, kind_is, code_is}
 
 -- ---- words
 
-message_word_found : (w : MessageWord) → find_word message_word_text message_words (message_word_text w) ≡ Some w
-message_word_found word.Denied = refl
-message_word_found _ = refl
-
 message_word_is : IsExact message_word (λ w. Unit {0}) Ends (word_value message_word_text message_words)
-message_word_is = table_exact message_word_text message_words refl message_word_found
+message_word_is = table_exact message_word_text message_words refl (elim [ word.Denied ↦ refl | _ ↦ refl ])
 
 -- a kind up to the end
 last_kind : IsExact (λ (k : ErrorKind). field (kind_text k)) (λ k. Unit {0}) IsNil (word_value kind_text kinds)

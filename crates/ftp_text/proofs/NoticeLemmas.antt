@@ -1,5 +1,5 @@
 -- Each notification is read exactly.
-use Rattle.std.proofs.Common.{◌≡◌, ℕ, ◌+◌, ◌≤◌, Bool, true, false, cond, ◌&&◌, ◌||◌, eqb, leb, List, [], ◌∷◌, ◌++◌, length, take, drop, Option, Some, None, refl, sym, ap, subst, ◌∙◌, append_assoc, arith}
+use Rattle.std.proofs.Common.{◌≡◌, ℕ, Bool, true, false, ◌&&◌, ◌||◌, eqb, leb, List, [], ◌++◌, length, take, drop, Some, refl, sym, ap, subst, ◌∙◌, append_assoc, arith}
 use Rattle.std.proofs.lemmas.Bool.{eqb-true, leb-true, le-leb, and_parts}
 use Rattle.std.proofs.lemmas.List.{length-append, length-take-le, take-append-drop, take_at, drop_at, nil_from_length}
 use Rattle.std.proofs.lemmas.Option.{cond_some}
@@ -12,7 +12,7 @@ use Rattle.ftp_base.specs.Trace.{trace_text}
 use Rattle.ftp_events.specs.declared.action.Action.{Action}
 use Rattle.ftp_events.specs.declared.action.Action.TheVariants as action
 use Rattle.ftp_text.specs.Fields.{field, number, escape, IsNumber, IsText}
-use Rattle.ftp_text.specs.Reading.{◌>>=◌, pair, find_word, word_as, word_value, number_field, text_field}
+use Rattle.ftp_text.specs.Reading.{◌>>=◌, pair, word_value, text_field}
 use Rattle.ftp_text.proofs.Lists.{text-append, text-parts}
 use Rattle.ftp_text.proofs.Exact.{Ends, IsNil, IsExact, bind_ok, some_is, pair_exact, made_exact, table_exact}
 use Rattle.ftp_text.proofs.FieldLemmas.{number_is}
@@ -21,18 +21,14 @@ use Rattle.ftp_text.specs.Printing.{notice_text, notice_bytes, first_path, secon
 use Rattle.ftp_text.specs.declared.notice.NoticeWord.{NoticeWord}
 use Rattle.ftp_text.specs.declared.notice.NoticeWord.TheVariants as told
 use Rattle.ftp_text.specs.declared.notice.About.{About}
-use Rattle.ftp_text.specs.LogLines.{IsPath, IsNotice, IsMeta, IsAction}
-use Rattle.ftp_text.specs.ActionReading.{notice_word_text, notice_words, has_bytes, has_path, has_two, suits, notice_with, trace_of, About_fields, about_of, about_at, told_by, notify_at}
+use Rattle.ftp_text.specs.LogLines.{IsPath, IsNotice, IsAction}
+use Rattle.ftp_text.specs.ActionReading.{notice_word_text, notice_words, has_bytes, has_path, has_two, suits, notice_with, About_fields, about_of, about_at, told_by, notify_at}
 use Rattle.ftp_text.proofs.TraceReading.{trace_is}
 
 -- ---- what stands before the text
 
-notice_word_found : (w : NoticeWord) → find_word notice_word_text notice_words (notice_word_text w) ≡ Some w
-notice_word_found told.Login = refl
-notice_word_found _ = refl
-
 notice_word_is : IsExact (λ (w : NoticeWord). field (notice_word_text w)) (λ w. Unit {0}) Ends (word_value notice_word_text notice_words)
-notice_word_is = table_exact notice_word_text notice_words refl notice_word_found
+notice_word_is = table_exact notice_word_text notice_words refl (elim [ told.Login ↦ refl | _ ↦ refl ])
 
 abbrev about_text : About → List ℕ
 about_text a =

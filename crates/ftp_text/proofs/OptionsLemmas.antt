@@ -154,21 +154,13 @@ host_is = word_exact host_text IsHost host_of host_passes host_takes host_again
 
 -- ---- the words
 
-active_found : (v : ActivePassiveMode) → find_word active_text actives (active_text v) ≡ Some v
-active_found PassiveOnly = refl
-active_found _ = refl
-
 active_is : IsExact (λ (v : ActivePassiveMode). field (active_text v)) (λ v. Unit {0}) Ends active_at
 unfolding active_at word_value
-active_is = table_exact active_text actives refl active_found
-
-restart_found : (v : Bool) → find_word restart_text restarts (restart_text v) ≡ Some v
-restart_found true = refl
-restart_found false = refl
+active_is = table_exact active_text actives refl (elim [ PassiveOnly ↦ refl | _ ↦ refl ])
 
 restart_is : IsExact (λ (v : Bool). field (restart_text v)) (λ v. Unit {0}) Ends restart_at
 unfolding restart_at word_value
-restart_is = table_exact restart_text restarts refl restart_found
+restart_is = table_exact restart_text restarts refl (elim [ true ↦ refl | false ↦ refl ])
 
 -- ---- the lockout
 

@@ -3,8 +3,8 @@ use Rattle.std.proofs.Common.{◌≡◌, ◌≢◌, ℕ, Bool, true, false, List
 use Rattle.std.specs.List.{AllByRecursion}
 use Rattle.std.specs.Str.{bytes_eq}
 use Rattle.std.proofs.lemmas.Slice.Eq.{bytes_eq-Decides}
-use Rattle.ftp_text.specs.Reading.{◌>>=◌, Reader, find_word, word_value, by_word}
-use Rattle.ftp_text.proofs.Exact.{Ends, IsNil, IsExact, bind_ok}
+use Rattle.ftp_text.specs.Reading.{◌>>=◌, Reader, behind_text, find_word, word_value, by_word}
+use Rattle.ftp_text.proofs.Exact.{Ends, IsNil, IsExact, behind_text_exact, bind_ok}
 
 -- what stands behind each word is read exactly, and tells the word
 pub record Behind {W V : Type 0} (text : W → List ℕ) (word_for : V → W) (spell : V → List ℕ) (Fits : V → Type 0) (read : W → Reader V) : Type 0 where
@@ -45,6 +45,15 @@ exact_spelled {A} {s} {t} {F} {W} {r} a same = record {
       let p = a.takes bytes x e in (p.0 ∙ ap (λ (u : List ℕ). u ++ x.1) (same x.0 p.1), p.1);
   again = λ x rest fits follows. ap (λ (u : List ℕ). r (u ++ rest)) (sym (same x fits)) ∙ a.again x rest fits follows;
 }
+
+-- behind a mark, and spelled in another way
+pub marked_exact : {W V : Type 0} {text : W → List ℕ} (mark : List ℕ) (table : List W) {word_for : V → W} {spell whole : V → List ℕ} {Fits : V → Type 0} {read : W → Reader V} {Found : W → Type 0} →
+    IsExact (λ (w : W). 32 ∷ text w) Found Ends (word_value text table) →
+    ((v : V) → Fits v → Found (word_for v)) →
+    Behind text word_for spell Fits read →
+    ((v : V) → Fits v → mark ++ (32 ∷ text (word_for v) ++ spell v) ≡ whole v) →
+    IsExact whole Fits IsNil (behind_text mark (λ bytes. word_value text table bytes >>= λ w. read w.0 w.1))
+marked_exact mark table words found behind same = exact_spelled (behind_text_exact mark (word_then table words found behind)) same
 
 differs : (p w : List ℕ) → w ≢ p → bytes_eq p w ≡ false
 differs p w n = by (bytes_eq p w) (λ e. (bytes_eq-Decides p w).0 e) where
