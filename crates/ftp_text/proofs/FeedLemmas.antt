@@ -1,5 +1,5 @@
 -- No line of a printed log has a line feed within it.
-use Rattle.std.proofs.Common.{◌≡◌, ℕ, zero, suc, ◌+◌, ◌/◌, ◌%◌, ◌^◌, ◌<◌, ◌≤◌, Bool, true, false, List, [], ◌∷◌, ◌++◌, length, Option, Some, None, refl, sym, subst, arith, inl, inr}
+use Rattle.std.proofs.Common.{◌≡◌, ℕ, zero, suc, ◌/◌, ◌%◌, ◌^◌, ◌<◌, ◌≤◌, Bool, true, false, List, [], ◌∷◌, ◌++◌, length, Option, Some, None, refl, sym, subst, arith, inl, inr}
 use Rattle.std.specs.Prelude.{codes, Result, Ok, Err}
 use Rattle.std.specs.Fmt.{decimal, digits, digit_glyph}
 use Rattle.std.proofs.lemmas.Bool.{cases_lt}
@@ -20,7 +20,6 @@ use Rattle.ftp_base.specs.declared.notice.Notice.TheVariants as notice
 use Rattle.ftp_base.specs.declared.notice.DataEvent.TheVariants.{Got, Put, Deleted, MadeDir, RemovedDir, Renamed}
 use Rattle.ftp_base.specs.declared.notice.EventMeta.{EventMeta}
 use Rattle.ftp_base.specs.declared.notice.PresenceEvent.TheVariants as presence
-use Rattle.ftp_base.specs.declared.reply.Reply.{Reply}
 use Rattle.ftp_base.specs.declared.reply.Reply.TheVariants as reply
 use Rattle.ftp_base.specs.declared.reply.ReplyCode.{ReplyCode}
 use Rattle.ftp_base.specs.declared.reply.ReplyCode.TheVariants as code

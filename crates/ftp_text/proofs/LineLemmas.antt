@@ -1,8 +1,7 @@
 -- Each line of a printed log is read exactly.
-use Rattle.std.proofs.Common.{◌≡◌, ℕ, Bool, true, false, cond, List, ◌∷◌, ◌++◌, Option, Some, None, refl, sym, ap, subst, ◌∙◌}
+use Rattle.std.proofs.Common.{◌≡◌, ℕ, Bool, true, false, cond, List, ◌++◌, Some, None, refl, sym, ap, subst, ◌∙◌}
 use Rattle.std.specs.Prelude.{codes}
-use Rattle.std.proofs.lemmas.Option.{cond_some, none-some}
-use Rattle.ftp_base.specs.declared.reply.Reply.TheVariants as reply
+use Rattle.std.proofs.lemmas.Option.{cond_some}
 use Rattle.ftp_events.specs.declared.action.Action.{Action}
 use Rattle.ftp_events.specs.declared.action.Action.TheVariants as action
 use Rattle.ftp_events.specs.declared.event.Answer.{Answer}
@@ -11,7 +10,6 @@ use Rattle.ftp_text.specs.Reading.{◌>>=◌, begins, literal_at, all_of}
 use Rattle.ftp_text.proofs.Exact.{bind_ok, some_is, literal_takes, all_of-takes, all_of-again}
 use Rattle.ftp_text.specs.declared.setup.Item.{Item}
 use Rattle.ftp_text.specs.declared.setup.Item.TheVariants as item
-use Rattle.ftp_text.specs.Events.{event_line}
 use Rattle.ftp_text.specs.EventReading.{event_of}
 use Rattle.ftp_text.specs.Printing.{action_fields}
 use Rattle.ftp_text.specs.Setup.{item_line, IsItem, IsItemOf}
@@ -21,7 +19,7 @@ use Rattle.ftp_text.proofs.EventLemmas.{event_takes, event_again}
 use Rattle.ftp_text.proofs.SetupLemmas.{item_takes, item_again}
 use Rattle.ftp_text.specs.declared.line.LogLine.{LogLine}
 use Rattle.ftp_text.specs.declared.line.LogLine.TheVariants as says
-use Rattle.ftp_text.specs.LogLines.{answer_text, log_line, is_options, IsAnswer, IsAction, IsLogLine}
+use Rattle.ftp_text.specs.LogLines.{answer_text, log_line, is_options, IsAnswer, IsLogLine}
 use Rattle.ftp_text.specs.AnswerReading.{answer_at}
 use Rattle.ftp_text.specs.DecisionReading.{decision_at}
 use Rattle.ftp_text.specs.ActionReading.{action_at}

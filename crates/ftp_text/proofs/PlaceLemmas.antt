@@ -1,5 +1,5 @@
 -- The lines of a printed log, read one by one: which may follow, and what they make.
-use Rattle.std.proofs.Common.{◌≡◌, ℕ, zero, suc, ◌+◌, ◌-◌, ◌<◌, ◌≤◌, ◌⊎◌, inl, inr, Bool, true, false, List, [], ◌∷◌, ◌++◌, length, get_or, take, drop, map, Option, Some, None, refl, sym, ap, subst, ◌∙◌, append_assoc, arith, eqb-true}
+use Rattle.std.proofs.Common.{◌≡◌, ℕ, zero, suc, ◌+◌, ◌-◌, ◌<◌, ◌≤◌, inl, inr, Bool, true, false, List, [], ◌∷◌, ◌++◌, length, get_or, take, drop, map, Option, Some, None, refl, sym, ap, subst, ◌∙◌, append_assoc, arith, eqb-true}
 use Rattle.std.specs.List.{flat_map, position_or_len, AllByRecursion}
 use Rattle.std.proofs.lemmas.Grind.{flat_map-append}
 use Rattle.std.proofs.lemmas.List.{append-nil, length-append, length-drop, map-append, take_all}
@@ -23,7 +23,7 @@ use Rattle.ftp_text.specs.declared.place.Place.{Place}
 use Rattle.ftp_text.specs.declared.place.Stage.{Stage}
 use Rattle.ftp_text.specs.declared.place.Stage.TheVariants as stage
 use Rattle.ftp_text.specs.LogLines.{log_line, IsAnswer, IsLogLine}
-use Rattle.ftp_text.specs.LogText.{answers, says_of, opening, lines_of, text_of, options_line, IsLogOf, IsLog, IsFront, line_size, ComesNext, IsPrintOf, IsPrinted, IsFirstBad, HasFirstBad}
+use Rattle.ftp_text.specs.LogText.{answers, says_of, opening, lines_of, text_of, options_line, IsLog, IsFront, line_size, ComesNext, IsPrinted, IsFirstBad, HasFirstBad}
 use Rattle.ftp_text.specs.Place.{stage_after, is_whole, stage_behind, IsAt, Reached, HasRead}
 use Rattle.ftp_text.proofs.LineLemmas.{log_line-injective}
 use Rattle.ftp_text.proofs.Lists.{all-append, all-parts}

@@ -1,17 +1,14 @@
 -- A text is that of a printed log in one way, and then no line of it is bad.
-use Rattle.std.proofs.Common.{◌≡◌, ℕ, zero, suc, ◌+◌, ◌<◌, ◌≤◌, ◌⊎◌, inl, inr, Bool, true, false, not, cond, List, [], ◌∷◌, ◌++◌, length, take, drop, Option, Some, None, refl, sym, ap, subst, ◌∙◌, append_assoc, arith}
-use Rattle.std.specs.List.{flat_map, position_or_len, AllByRecursion}
-use Rattle.std.proofs.lemmas.Bool.Decides.{nat_tests}
+use Rattle.std.proofs.Common.{◌≡◌, ℕ, ◌+◌, ◌<◌, ◌≤◌, inl, inr, true, List, [], ◌∷◌, ◌++◌, length, take, refl, sym, ap, subst, ◌∙◌, append_assoc, arith}
+use Rattle.std.specs.List.{position_or_len, AllByRecursion}
 use Rattle.std.proofs.lemmas.Grind.{flat_map-append}
 use Rattle.std.proofs.lemmas.List.{append-nil, length-append, take_at}
-use Rattle.ftp_events.specs.declared.entry.Entry.{Entry}
 use Rattle.ftp_control.specs.Lines.{is_line_feed, first_line}
-use Rattle.ftp_text.proofs.Exact.{Pass, Stops, run_length}
-use Rattle.ftp_text.specs.declared.setup.Item.{Item}
-use Rattle.ftp_text.specs.Printing.{line, print}
+use Rattle.ftp_text.proofs.Exact.{run_length}
+use Rattle.ftp_text.specs.Printing.{line}
 use Rattle.ftp_text.specs.declared.line.LogLine.{LogLine}
 use Rattle.ftp_text.specs.LogLines.{log_line, IsLogLine}
-use Rattle.ftp_text.specs.LogText.{lines_of, text_of, options_line, IsLog, IsFront, line_size, ComesNext, IsPrintOf, IsPrinted, IsFirstBad, HasFirstBad}
+use Rattle.ftp_text.specs.LogText.{lines_of, text_of, IsLog, IsFront, ComesNext, IsPrinted, IsFirstBad, HasFirstBad}
 use Rattle.ftp_text.proofs.LineLemmas.{log_line-injective}
 use Rattle.ftp_text.proofs.FieldFeeds.{HasNone, is_line_byte}
 use Rattle.ftp_text.proofs.FeedLemmas.{line_none}

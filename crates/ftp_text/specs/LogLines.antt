@@ -1,21 +1,16 @@
 -- The lines of a printed log, without their line feeds: an options line, and what the lines of entries say.
-use Rattle.std.specs.Prelude.{◌≡◌, ℕ, ◌^◌, ◌<◌, Bool, true, false, List, [], ◌∷◌, ◌++◌, length, map, codes, Option, Some, None, Result, Ok, Err}
-use Rattle.std.specs.List.{flat_map}
+use Rattle.std.specs.Prelude.{◌≡◌, ℕ, ◌^◌, ◌<◌, Bool, true, false, List, [], ◌∷◌, ◌++◌, length, codes, Option, Some, None, Ok, Err}
 use Rattle.ftp_base.specs.declared.fault.LinkFault.{LinkFault}
 use Rattle.ftp_base.specs.declared.notice.DataEvent.TheVariants.{Got, Put, Deleted, MadeDir, RemovedDir, Renamed}
 use Rattle.ftp_base.specs.declared.notice.Notice.{Notice}
 use Rattle.ftp_base.specs.declared.notice.Notice.TheVariants as notice
 use Rattle.ftp_base.specs.declared.notice.EventMeta.{EventMeta}
-use Rattle.ftp_base.specs.declared.reply.Reply.{Reply}
 use Rattle.ftp_base.specs.declared.reply.Reply.TheVariants as reply
-use Rattle.ftp_proxy.specs.declared.error.ProxyError.{ProxyError}
-use Rattle.ftp_proxy.specs.declared.header.ProxyHeader.{ProxyHeader}
 use Rattle.ftp_transfer.specs.declared.job.Ticket.{Ticket}
 use Rattle.ftp_events.specs.declared.action.Action.{Action}
 use Rattle.ftp_events.specs.declared.action.Action.TheVariants as action
 use Rattle.ftp_events.specs.declared.decision.Decision.{Decision}
 use Rattle.ftp_events.specs.declared.decision.Decision.TheVariants as decision
-use Rattle.ftp_events.specs.declared.entry.Entry.{Entry}
 use Rattle.ftp_events.specs.declared.event.Answer.{Answer}
 use Rattle.ftp_events.specs.declared.event.Answer.TheVariants as answer
 use Rattle.ftp_text.specs.Fields.{field, number, fault_text, IsAddress, IsNumber, IsText}
@@ -23,7 +18,7 @@ use Rattle.ftp_text.specs.declared.setup.Item.{Item}
 use Rattle.ftp_text.specs.declared.setup.Item.TheVariants as item
 use Rattle.ftp_text.specs.Events.{event_line, IsEvent}
 use Rattle.ftp_text.specs.Setup.{item_line, IsItem}
-use Rattle.ftp_text.specs.Printing.{line, decision_text, decision_fields, header_fields, outcome_fields, action_fields}
+use Rattle.ftp_text.specs.Printing.{decision_text, decision_fields, header_fields, outcome_fields, action_fields}
 use Rattle.ftp_text.specs.LineWords.{AnswerWord}
 use Rattle.ftp_text.specs.LineWords as word
 use Rattle.ftp_text.specs.declared.line.LogLine.{LogLine}

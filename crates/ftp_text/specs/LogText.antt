@@ -4,7 +4,7 @@ use Rattle.std.specs.List.{flat_map, position_or_len, AllByRecursion}
 use Rattle.ftp_events.specs.declared.entry.Entry.{Entry}
 use Rattle.ftp_events.specs.declared.event.Answer.{Answer}
 use Rattle.ftp_events.specs.declared.event.Answer.TheVariants as answer
-use Rattle.ftp_control.specs.Lines.{is_line_feed, first_line, behind_line}
+use Rattle.ftp_control.specs.Lines.{is_line_feed, first_line}
 use Rattle.ftp_text.specs.declared.setup.Item.{Item}
 use Rattle.ftp_text.specs.Setup.{item_line}
 use Rattle.ftp_text.specs.Printing.{line, print}
