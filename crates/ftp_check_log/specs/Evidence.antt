@@ -1,7 +1,7 @@
 -- Why an entry was decided as it was: what the entries before it did with its port.
 --
 -- A log is read here with the oldest entry first, and places in it count from 0.
-use Rattle.std.specs.Prelude.{◌≡◌, ℕ, ◌+◌, ◌-◌, ◌<◌, ⊤, Bool, true, false, not, List, length, take, reverse, slice_get, ◌++◌, codes, decimal, Option, Some, None}
+use Rattle.std.specs.Prelude.{◌≡◌, ℕ, ◌+◌, ◌-◌, ◌<◌, ⊤, Bool, true, false, not, List, length, take, reverse, slice_get, ◌++◌, codes, decimal, Option, Some, None, is_some, if◌then◌else◌}
 use Rattle.std.specs.List.{flat_map}
 use Rattle.std.specs.Option.{option_and_then, option_map, option_map_or}
 use Rattle.ftp_base.specs.declared.net.IpAddr.{IpAddr}
@@ -58,6 +58,10 @@ pub data Matter : Type 0 where
   FreedomOf : Target → Matter
   RangeOf : IpAddr → Matter
   NoPort : Matter
+
+-- of a port of a client: that it is held before place k, or that it is free
+abbrev pub port_matter : Options → List Entry → ℕ → Target → Matter
+port_matter o log k t = if is_some (holder_before o log k t.client t.port) then HoldOf t else FreedomOf t
 
 -- somebody holds what a data connection comes for, and came from another peer
 abbrev pub is_foreign : Options → List Entry → EventKind → Target → Bool

@@ -131,7 +131,23 @@ fn run_command<S: Source, K: Sink>(
             Err(Failed::Fault) => CheckStatus::ReadFault,
             Err(Failed::Memory) => CheckStatus::OutOfMemory,
         },
-        CheckCommand::Help => CheckStatus::Done.after(write_all(sink, CHECK_HELP)),
-        CheckCommand::Version => CheckStatus::Done.after(write_all(sink, CHECK_VERSION)),
+        CheckCommand::Help => told(CHECK_HELP, sink),
+        CheckCommand::Version => told(CHECK_VERSION, sink),
+    }
+}
+
+// Writes the text, and says how the run ends.
+fn told<K: Sink>(text: &[u8], sink: &mut K) -> CheckStatus
+    ensures outcome { TellsText result text.now (K.written sink.old) (K.written sink.new) }
+    ensures no_usage { result ≢ CheckStatus.Usage }
+    ensures no_entry { result ≢ CheckStatus.NoEntry }
+    ensures no_read { result ≢ CheckStatus.ReadFault }
+    ensures write_fault { result ≡ CheckStatus.WriteFault → HasRisen (K.faults sink.old) (K.faults sink.new) }
+    ensures sink_count { K.faults sink.old ≤ K.faults sink.new }
+{
+    match write_all(sink, text) {
+        Ok(()) => CheckStatus::Done,
+        Err(Failed::Fault) => CheckStatus::WriteFault,
+        Err(Failed::Memory) => CheckStatus::OutOfMemory,
     }
 }

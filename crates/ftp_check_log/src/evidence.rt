@@ -1,6 +1,6 @@
 //! Why an entry was decided as it was: the earlier entries that granted its port, or released it.
 
-ghost use Rattle.std.specs.Prelude.{◌≡◌, ◌<◌, ◌++◌, length, reverse, slice_get, is_some, IfOk, IfSome, OnOk, if◌then◌else◌};
+ghost use Rattle.std.specs.Prelude.{◌≡◌, ◌<◌, ◌++◌, length, reverse, slice_get, IfOk, IfSome, OnOk, if◌then◌else◌};
 ghost use Rattle.std.specs.List.{flat_map};
 ghost use Rattle.std.specs.Option.{option_map_or};
 ghost use Rattle.ftp_events.specs.declared.entry.Entry.{Entry};
@@ -8,7 +8,7 @@ ghost use Rattle.ftp_events.specs.Board.{Target, target};
 ghost use Rattle.ftp_events.specs.Log.{is_stopped};
 ghost use Rattle.ftp_events.specs.Right.{IsRight};
 ghost use Rattle.ftp_text.specs.Fields.{number};
-ghost use Rattle.ftp_check_log.specs.Evidence.{IsEvidence, IsOnlyEvidence, TellsOf, NoPort, HoldOf, FreedomOf, RangeOf, past_at, holder_before, named_client, evidence_text};
+ghost use Rattle.ftp_check_log.specs.Evidence.{IsEvidence, IsOnlyEvidence, TellsOf, NoPort, RangeOf, past_at, port_matter, named_client, evidence_text};
 ghost use Rattle.ftp_check_log.specs.Grants.{AreHeld, IsLastGrant};
 
 use crate::grants::{Grant, first_release, last_grants, places_of};
@@ -68,139 +68,111 @@ pub fn why(alloc: Global, options: &Options, log: &Log, k: u64) -> Result<Eviden
     ensures evidence { IfOk result (IsEvidence options.now (reverse log.now.entries) k) }
     ensures only { IfOk result (IsOnlyEvidence options.now (reverse log.now.entries) k) }
 {
-    Ok(evidence_at(alloc, options, log.as_slice(), k as usize)?)
+    let asked = Asked {
+        alloc,
+        options,
+        entries: log.as_slice(),
+        k: k as usize,
+    };
+    Ok(asked.evidence()?)
 }
 
-// The evidence for the entry at place `k` of a right log.
-fn evidence_at(
+// An entry of a log by its place, with what came before it.
+#[derive(Clone, Copy)]
+struct Asked<'a> {
     alloc: Global,
-    options: &Options,
-    entries: &[Entry],
+    options: &'a Options,
+    entries: &'a [Entry],
     k: usize,
-) -> Result<Evidence, AllocError>
-    requires right { IsRight options.now (reverse entries.now) }
-    requires entry { k < length entries.now }
-    ensures { IfOk result (IsEvidence options.now entries.now k) }
-{
-    let entry = &entries[k];
-    match entry.decision {
-        Decision::Attached { .. } => of_connection(alloc, options, entries, k),
-        Decision::Turned => of_turned(alloc, options, entries, k),
-        Decision::Full => of_full(alloc, options, entries, k),
-        _ => Ok(Evidence::Plain),
-    }
+    ghost below: { k < length entries.now },
 }
 
-// Of a data connection that is turned away: after a stop it rests on no port.
-fn of_turned(
-    alloc: Global,
-    options: &Options,
-    entries: &[Entry],
-    k: usize,
-) -> Result<Evidence, AllocError>
-    requires { k < length entries.now }
-    ensures { (e : Entry) → slice_get entries.now k ≡ Some e →
-        IfOk result (TellsOf options.now entries.now k (if is_stopped (past_at entries.now k) then NoPort else
-        option_map_or (λ t. if is_some (holder_before options.now entries.now k t.client t.port) then HoldOf t else FreedomOf t)
-        (target options.now e.event.kind e.answer) NoPort)) }
-{
-    if is_stopped(&entries[..k]) {
-        return Ok(Evidence::Plain);
+impl Asked<'_> {
+    // The evidence for an entry of a right log.
+    fn evidence(&self) -> Result<Evidence, AllocError>
+        requires { IsRight self.now.options.now (reverse self.now.entries.now) }
+        ensures { IfOk result (IsEvidence self.now.options.now self.now.entries.now self.now.k) }
+    {
+        let entry = &self.entries[self.k];
+        match entry.decision {
+            Decision::Attached { .. } => self.of_connection(),
+            Decision::Turned => self.of_turned(),
+            Decision::Full => self.of_full(),
+            _ => Ok(Evidence::Plain),
+        }
     }
-    of_connection(alloc, options, entries, k)
-}
 
-// Of the port that a data connection came to: its hold, or since when it is free.
-fn of_connection(
-    alloc: Global,
-    options: &Options,
-    entries: &[Entry],
-    k: usize,
-) -> Result<Evidence, AllocError>
-    requires { k < length entries.now }
-    ensures { (e : Entry) → slice_get entries.now k ≡ Some e →
-        IfOk result (TellsOf options.now entries.now k
-        (option_map_or (λ t. if is_some (holder_before options.now entries.now k t.client t.port) then HoldOf t else FreedomOf t)
-        (target options.now e.event.kind e.answer) NoPort)) }
-{
-    let entry = &entries[k];
-    match target(options, &entry.event.kind, entry.answer) {
-        Some(to) => of_port(alloc, options, entries, k, to),
-        None => Ok(Evidence::Plain),
+    // Of a data connection that is turned away: after a stop it rests on no port.
+    fn of_turned(&self) -> Result<Evidence, AllocError>
+        ensures { (e : Entry) → slice_get self.now.entries.now self.now.k ≡ Some e →
+            IfOk result (TellsOf self.now.options.now self.now.entries.now self.now.k (if is_stopped (past_at self.now.entries.now self.now.k) then NoPort else
+            option_map_or (port_matter self.now.options.now self.now.entries.now self.now.k) (target self.now.options.now e.event.kind e.answer) NoPort)) }
+    {
+        if is_stopped(&self.entries[..self.k]) {
+            return Ok(Evidence::Plain);
+        }
+        self.of_connection()
     }
-}
 
-// Of a port of a client before place `k`: its hold, or since when it is free.
-fn of_port(
-    alloc: Global,
-    options: &Options,
-    entries: &[Entry],
-    k: usize,
-    to: SocketAddr,
-) -> Result<Evidence, AllocError>
-    requires { k < length entries.now }
-    ensures { let t : Target = record { client = to.ip; port = to.port } in
-        IfOk result (TellsOf options.now entries.now k (if is_some (holder_before options.now entries.now k to.ip to.port) then HoldOf t else FreedomOf t)) }
-{
-    let last = last_grants(alloc, options, entries, k, to.ip)?;
-    match last.get(&to.port) {
-        Some(grant) => Ok(of_grant(options, entries, k, *grant, to)),
-        None => Ok(Evidence::FreeSince(None)),
+    // Of the port that a data connection came to: its hold, or since when it is free.
+    fn of_connection(&self) -> Result<Evidence, AllocError>
+        ensures { (e : Entry) → slice_get self.now.entries.now self.now.k ≡ Some e →
+            IfOk result (TellsOf self.now.options.now self.now.entries.now self.now.k
+            (option_map_or (port_matter self.now.options.now self.now.entries.now self.now.k) (target self.now.options.now e.event.kind e.answer) NoPort)) }
+    {
+        let entry = &self.entries[self.k];
+        match target(self.options, &entry.event.kind, entry.answer) {
+            Some(to) => self.of_port(to),
+            None => Ok(Evidence::Plain),
+        }
     }
-}
 
-// Of a port of a client by its last grant before place `k`: its hold, or since when it is free.
-fn of_grant(
-    options: &Options,
-    entries: &[Entry],
-    k: usize,
-    grant: Grant,
-    to: SocketAddr,
-) -> Evidence
-    requires entry { k < length entries.now }
-    requires last { IsLastGrant options.now entries.now k to.ip to.port (Some grant) }
-    ensures { let t : Target = record { client = to.ip; port = to.port } in
-        TellsOf options.now entries.now k (if is_some (holder_before options.now entries.now k to.ip to.port) then HoldOf t else FreedomOf t) result }
-{
-    match first_release(options, entries, k, grant, to) {
-        Some(place) => Evidence::FreeSince(Some(place)),
-        None => Evidence::HeldBy(grant.place),
+    // Of a port of a client: its hold, or since when it is free.
+    fn of_port(&self, to: SocketAddr) -> Result<Evidence, AllocError>
+        ensures { let t : Target = record { client = to.ip; port = to.port } in
+            IfOk result (TellsOf self.now.options.now self.now.entries.now self.now.k (port_matter self.now.options.now self.now.entries.now self.now.k t)) }
+    {
+        let last = last_grants(self.alloc, self.options, self.entries, self.k, to.ip)?;
+        match last.get(&to.port) {
+            Some(grant) => Ok(self.of_grant(*grant, to)),
+            None => Ok(Evidence::FreeSince(None)),
+        }
     }
-}
 
-// Of the range, where each of its ports is held for the client of the session that the entry names.
-fn of_full(
-    alloc: Global,
-    options: &Options,
-    entries: &[Entry],
-    k: usize,
-) -> Result<Evidence, AllocError>
-    requires entry { k < length entries.now }
-    requires held { (e : Entry) → slice_get entries.now k ≡ Some e →
-        IfSome (named_client (past_at entries.now k) e.event.kind) (λ a. AreHeld options.now entries.now k a) }
-    ensures { (e : Entry) → slice_get entries.now k ≡ Some e →
-        IfOk result (TellsOf options.now entries.now k (option_map_or (λ a. RangeOf a) (named_client (past_at entries.now k) e.event.kind) NoPort)) }
-{
-    match client_before(&entries[..k], entries[k].event.kind.named_session()) {
-        Some(client) => of_range(alloc, options, entries, k, client),
-        None => Ok(Evidence::Plain),
+    // Of a port of a client by its last grant: its hold, or since when it is free.
+    fn of_grant(&self, grant: Grant, to: SocketAddr) -> Evidence
+        requires { IsLastGrant self.now.options.now self.now.entries.now self.now.k to.ip to.port (Some grant) }
+        ensures { let t : Target = record { client = to.ip; port = to.port } in
+            TellsOf self.now.options.now self.now.entries.now self.now.k (port_matter self.now.options.now self.now.entries.now self.now.k t) result }
+    {
+        match first_release(self.options, self.entries, self.k, grant, to) {
+            Some(place) => Evidence::FreeSince(Some(place)),
+            None => Evidence::HeldBy(grant.place),
+        }
     }
-}
 
-// Of the range, where each of its ports is held for the client.
-fn of_range(
-    alloc: Global,
-    options: &Options,
-    entries: &[Entry],
-    k: usize,
-    client: IpAddr,
-) -> Result<Evidence, AllocError>
-    requires entry { k < length entries.now }
-    requires held { AreHeld options.now entries.now k client }
-    ensures { IfOk result (TellsOf options.now entries.now k (RangeOf client)) }
-{
-    let last = last_grants(alloc, options, entries, k, client)?;
-    Ok(Evidence::FullBy(places_of(alloc, options, &last)?))
+    // Of the range, where each of its ports is held for the client of the session that the entry names.
+    fn of_full(&self) -> Result<Evidence, AllocError>
+        requires { (e : Entry) → slice_get self.now.entries.now self.now.k ≡ Some e →
+            IfSome (named_client (past_at self.now.entries.now self.now.k) e.event.kind) (λ a. AreHeld self.now.options.now self.now.entries.now self.now.k a) }
+        ensures { (e : Entry) → slice_get self.now.entries.now self.now.k ≡ Some e →
+            IfOk result (TellsOf self.now.options.now self.now.entries.now self.now.k (option_map_or (λ a. RangeOf a) (named_client (past_at self.now.entries.now self.now.k) e.event.kind) NoPort)) }
+    {
+        let entry = &self.entries[self.k];
+        match client_before(&self.entries[..self.k], entry.event.kind.named_session()) {
+            Some(client) => self.of_range(client),
+            None => Ok(Evidence::Plain),
+        }
+    }
+
+    // Of the range, where each of its ports is held for the client.
+    fn of_range(&self, client: IpAddr) -> Result<Evidence, AllocError>
+        requires { AreHeld self.now.options.now self.now.entries.now self.now.k client }
+        ensures { IfOk result (TellsOf self.now.options.now self.now.entries.now self.now.k (RangeOf client)) }
+    {
+        let last = last_grants(self.alloc, self.options, self.entries, self.k, client)?;
+        Ok(Evidence::FullBy(places_of(self.alloc, self.options, &last)?))
+    }
 }
 
 /// Writes the evidence, without a line feed behind it.

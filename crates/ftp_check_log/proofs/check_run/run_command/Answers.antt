@@ -1,8 +1,7 @@
 use Rattle.std.proofs.Common.{sym, subst, ◌∙◌}
 use Rattle.std.proofs.lemmas.Option.{IfSome_then}
 use Rattle.ftp_base.specs.Outside.{HasRisen}
-use Rattle.ftp_check_log.specs.declared.status.CheckStatus.TheVariants as status
-use Rattle.ftp_check_log.proofs.CheckRunLemmas.{IsTold, told-outcome, told-status, of-no_write, after-write_fault, text-told, check-told, why-outcome, why-told_status, why-told, both-some, some-all, explained-no_write}
+use Rattle.ftp_check_log.proofs.CheckRunLemmas.{IsTold, told-outcome, told-status, of-no_write, after-write_fault, check-told, why-outcome, why-told_status, why-told, both-some, some-all, explained-no_write}
 use Rattle.ftp_check_log.proofs.check_run.run_command.Goals as goal
 
 -- ---- a check
@@ -75,17 +74,5 @@ returns-in-Ok-explain-clause-read_idle g c = λ is. absurd (subst (IsTold (Unit 
 pub returns-in-Help-clause-complete : goal.returns-in-Help-clause-complete
 returns-in-Help-clause-complete g c = some-all _ (g.S.Source.left c.args.source.now) (λ bytes v so source sink. rw c.in-Help.is tt)
 
-pub returns-in-Help-clause-no_usage : goal.returns-in-Help-clause-no_usage
-returns-in-Help-clause-no_usage g c = λ is. subst (IsTold ⊥) is (text-told ⊥ c.write_all.result c.after-in-Help.result status.Done tt c.after-in-Help.ensures)
-
-pub returns-in-Help-clause-no_entry : goal.returns-in-Help-clause-no_entry
-returns-in-Help-clause-no_entry g c = λ is. absurd (subst (IsTold ⊥) is (text-told ⊥ c.write_all.result c.after-in-Help.result status.Done tt c.after-in-Help.ensures))
-
 pub returns-in-Version-clause-complete : goal.returns-in-Version-clause-complete
 returns-in-Version-clause-complete g c = some-all _ (g.S.Source.left c.args.source.now) (λ bytes v so source sink. rw c.in-Version.is tt)
-
-pub returns-in-Version-clause-no_usage : goal.returns-in-Version-clause-no_usage
-returns-in-Version-clause-no_usage g c = λ is. subst (IsTold ⊥) is (text-told ⊥ c.write_all-in-Version.result c.after-in-Version.result status.Done tt c.after-in-Version.ensures)
-
-pub returns-in-Version-clause-no_entry : goal.returns-in-Version-clause-no_entry
-returns-in-Version-clause-no_entry g c = λ is. absurd (subst (IsTold ⊥) is (text-told ⊥ c.write_all-in-Version.result c.after-in-Version.result status.Done tt c.after-in-Version.ensures))

@@ -11,5 +11,5 @@ returns-clause-only c =
     let o = c.args.options.now in
     let log : List Entry = reverse c.args.log.now.entries in
     let right : IsRight o (reverse log) = subst (IsRight o) (sym (reverse-reverse c.args.log.now.entries)) c.requires.right in
-    let here : IsEvidence o log c.args.k c.in_ok-evidence_at.field-0 = subst (λ (l : List Entry). IsEvidence o l c.args.k c.in_ok-evidence_at.field-0) c.as_slice.ensures c.in_ok-evidence_at.ensures in
-    evidence-once o log c.args.k c.in_ok-evidence_at.field-0 right here
+    let here : IsEvidence o log c.args.k c.in_ok-evidence.field-0 = subst (λ (l : List Entry). IsEvidence o l c.args.k c.in_ok-evidence.field-0) c.as_slice.ensures c.in_ok-evidence.ensures in
+    evidence-once o log c.args.k c.in_ok-evidence.field-0 right here
