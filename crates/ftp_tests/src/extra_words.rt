@@ -1,25 +1,22 @@
 //! Words beside the profile's, over a storage in memory.
 
+use crate::same::same;
+use crate::values::{File, storage};
 use ftp_base::{Bytes, ControlChanMsg, MemoryStorage, StoreError};
 use ftp_control::{Command, parse_line};
 use ftp_extras::{Asker, Extra, Extras, FileExtras, Offers};
 use std::alloc::{AllocError, Global};
-use std::test::Fail;
+use std::process::Abort;
 
 /// The words over a storage with some directories, and a file of five bytes.
 fn words(alloc: Global) -> Result<FileExtras<MemoryStorage>, StoreError> {
-    let mut store = MemoryStorage::new(alloc, 9, Vec::new(alloc));
-    for path in [b"/usr".as_slice(), b"/usr/dm", b"/usr/dm/bin"] {
-        store.mkdir(Bytes::from_slice(alloc, path)?)?;
-    }
-    store.put_file(
-        Bytes::from_slice(alloc, b"/usr/dm/f")?,
-        b"hello".to_vec(alloc)?,
-    )?;
     let offers = Offers {
         is_behind_tls: false,
         can_restart: true,
     };
+    let directories = [b"/usr".as_slice(), b"/usr/dm", b"/usr/dm/bin"];
+    let files: [File<'_>; 1] = [(b"/usr/dm/f", b"hello")];
+    let store = storage(alloc, 9, &[], &directories, &files)?;
     Ok(FileExtras::new(alloc, offers, store))
 }
 
@@ -36,113 +33,124 @@ fn text_of(alloc: Global, extra: &Extra) -> Result<Bytes, AllocError> {
     }
 }
 
-/// What is done on a line in a directory whose name has a quote.
-fn heard(
+/// What is done on a command in a directory whose name has a quote.
+fn done(
     words: &mut FileExtras<MemoryStorage>,
     alloc: Global,
     is_in: bool,
+    command: &Command,
     line: &[u8],
 ) -> Result<Bytes, AllocError> {
+    if let Command::Pass { .. } = command {
+        return Bytes::from_slice(alloc, b"password");
+    }
     let cwd = Bytes::from_slice(alloc, b"/usr/dm/foo\"bar")?;
     let asker = Asker {
         name: None,
         is_in,
         cwd: &cwd,
     };
+    text_of(alloc, &words.hear(asker, command, line)?)
+}
+
+/// What is done on a line.
+fn heard(
+    words: &mut FileExtras<MemoryStorage>,
+    alloc: Global,
+    is_in: bool,
+    line: &[u8],
+) -> Result<Bytes, AllocError> {
     match parse_line(alloc, line) {
-        Ok(command) => match command {
-            Command::Pass { .. } => Bytes::from_slice(alloc, b"password"),
-            command => text_of(alloc, &words.hear(asker, &command, line)?),
-        },
+        Ok(command) => done(words, alloc, is_in, &command, line),
         Err(_) => Bytes::from_slice(alloc, b"refused"),
+    }
+}
+
+/// A line, and what is done on it.
+type Row = (&'static [u8], &'static [u8]);
+
+/// The lines in their order are answered so, before the login or behind it.
+fn compare(rt: &impl Abort, alloc: Global, is_in: bool, rows: &[Row]) {
+    let mut words = words(alloc).expect(rt, "words");
+    for (line, due) in rows {
+        let found = heard(&mut words, alloc, is_in, line).expect(rt, "an answer");
+        same(rt, &found.as_slice(), due);
     }
 }
 
 // The replies are those of RFC 959, section 5.4 and its appendix on directories, of RFC 2428, section 3, and of RFC 3659, sections 4
 // and 7.
-#[test]
-fn the_words_of_a_session_are_answered(rt: HostRuntime) -> Result<(), Fail> {
-    let mut words = words(rt.alloc())?;
-    for (line, due) in [
-        (
-            b"PWD\r\n".as_slice(),
-            b"257 \"/usr/dm/foo\"\"bar\" is the current directory\r\n".as_slice(),
-        ),
-        (b"cdup\r\n", b"/usr/dm"),
-        (b"SYST\r\n", b"215 UNIX Type: L8\r\n"),
-        (b"STRU R\r\n", b"504 Not implemented for that parameter\r\n"),
-        (b"SIZE /usr/dm/f\r\n", b"213 5\r\n"),
-        (b"SIZE /usr/dm\r\n", b"550 Not a file\r\n"),
-        (
-            b"MLST /usr/dm/f\r\n",
-            b"250-Facts\r\n type=file;size=5; /usr/dm/f\r\n250 End\r\n",
-        ),
-        (b"RETR /usr/dm/none\r\n", b"storageerror"),
-        (b"RETR /usr/dm/f\r\n", b"pass"),
-        (b"NLST *\r\n", b"pass"),
-        (b"PASV\r\n", b"pass"),
-        (b"EPSV\r\n", b"epsv"),
-        (b"epsv 1\r\n", b"epsv"),
-        (
-            b"EPSV 2\r\n",
-            b"522 Network protocol not supported, use (1)\r\n",
-        ),
-        (b"EPSV ALL\r\n", b"200 Noted\r\n"),
-        (b"FOO\r\n", b"pass"),
-    ] {
-        assert_eq!(rt; heard(&mut words, rt.alloc(), true, line)?.as_slice(), due);
-    }
-    Ok(())
-}
+const OF_A_SESSION: [Row; 16] = [
+    (
+        b"PWD\r\n",
+        b"257 \"/usr/dm/foo\"\"bar\" is the current directory\r\n",
+    ),
+    (b"cdup\r\n", b"/usr/dm"),
+    (b"SYST\r\n", b"215 UNIX Type: L8\r\n"),
+    (b"STRU R\r\n", b"504 Not implemented for that parameter\r\n"),
+    (b"SIZE /usr/dm/f\r\n", b"213 5\r\n"),
+    (b"SIZE /usr/dm\r\n", b"550 Not a file\r\n"),
+    (
+        b"MLST /usr/dm/f\r\n",
+        b"250-Facts\r\n type=file;size=5; /usr/dm/f\r\n250 End\r\n",
+    ),
+    (b"RETR /usr/dm/none\r\n", b"storageerror"),
+    (b"RETR /usr/dm/f\r\n", b"pass"),
+    (b"NLST *\r\n", b"pass"),
+    (b"PASV\r\n", b"pass"),
+    (b"EPSV\r\n", b"epsv"),
+    (b"epsv 1\r\n", b"epsv"),
+    (
+        b"EPSV 2\r\n",
+        b"522 Network protocol not supported, use (1)\r\n",
+    ),
+    (b"EPSV ALL\r\n", b"200 Noted\r\n"),
+    (b"FOO\r\n", b"pass"),
+];
 
 #[test]
-fn files_are_renamed_and_removed(rt: HostRuntime) -> Result<(), Fail> {
-    let mut words = words(rt.alloc())?;
-    for (line, due) in [
-        (
-            b"RNTO /usr/g\r\n".as_slice(),
-            b"503 Use RNFR first\r\n".as_slice(),
-        ),
-        (b"RNFR /usr/dm\r\n", b"350 Ready for RNTO\r\n"),
-        (b"NOOP\r\n", b"pass"),
-        (b"RNTO /usr/g\r\n", b"503 Use RNFR first\r\n"),
-        (b"RNFR /usr/dm\r\n", b"350 Ready for RNTO\r\n"),
-        (b"RNTO /usr/dm/bin/x\r\n", b"storageerror"),
-        (b"RNFR /usr/dm\r\n", b"350 Ready for RNTO\r\n"),
-        (b"RNTO /usr/g\r\n", b"renamesuccess"),
-        (b"SIZE /usr/g/f\r\n", b"213 5\r\n"),
-        (b"SIZE /usr/dm/f\r\n", b"storageerror"),
-        (b"RMD /usr/g\r\n", b"storageerror"),
-        (b"MKD /usr/g/bin/a\r\n", b"mkdirsuccess"),
-        (b"RMD /usr/g/bin/a\r\n", b"rmdirsuccess"),
-        (b"DELE /usr/g/bin\r\n", b"storageerror"),
-        (b"DELE /usr/g/f\r\n", b"delfilesuccess"),
-        (b"DELE /usr/g/f\r\n", b"storageerror"),
-        (
-            b"MFMT 20021301000000 /usr/g\r\n",
-            b"501 Invalid Parameter\r\n",
-        ),
-    ] {
-        assert_eq!(rt; heard(&mut words, rt.alloc(), true, line)?.as_slice(), due);
-    }
-    Ok(())
+fn the_words_of_a_session_are_answered(rt: HostRuntime) {
+    compare(&rt, rt.alloc(), true, &OF_A_SESSION);
 }
 
+const OF_FILES: [Row; 17] = [
+    (b"RNTO /usr/g\r\n", b"503 Use RNFR first\r\n"),
+    (b"RNFR /usr/dm\r\n", b"350 Ready for RNTO\r\n"),
+    (b"NOOP\r\n", b"pass"),
+    (b"RNTO /usr/g\r\n", b"503 Use RNFR first\r\n"),
+    (b"RNFR /usr/dm\r\n", b"350 Ready for RNTO\r\n"),
+    (b"RNTO /usr/dm/bin/x\r\n", b"storageerror"),
+    (b"RNFR /usr/dm\r\n", b"350 Ready for RNTO\r\n"),
+    (b"RNTO /usr/g\r\n", b"renamesuccess"),
+    (b"SIZE /usr/g/f\r\n", b"213 5\r\n"),
+    (b"SIZE /usr/dm/f\r\n", b"storageerror"),
+    (b"RMD /usr/g\r\n", b"storageerror"),
+    (b"MKD /usr/g/bin/a\r\n", b"mkdirsuccess"),
+    (b"RMD /usr/g/bin/a\r\n", b"rmdirsuccess"),
+    (b"DELE /usr/g/bin\r\n", b"storageerror"),
+    (b"DELE /usr/g/f\r\n", b"delfilesuccess"),
+    (b"DELE /usr/g/f\r\n", b"storageerror"),
+    (
+        b"MFMT 20021301000000 /usr/g\r\n",
+        b"501 Invalid Parameter\r\n",
+    ),
+];
+
 #[test]
-fn before_the_login_only_open_words_are_answered(rt: HostRuntime) -> Result<(), Fail> {
-    let mut words = words(rt.alloc())?;
-    for (line, due) in [
-        (
-            b"DELE /usr/dm/f\r\n".as_slice(),
-            b"530 Please authenticate\r\n".as_slice(),
-        ),
-        (b"PWD\r\n", b"530 Please authenticate\r\n"),
-        (b"RETR /usr/dm/none\r\n", b"pass"),
-        (b"OPTS UTF8 ON\r\n", b"200 Always in UTF8 mode\r\n"),
-        (b"EPSV\r\n", b"530 Please authenticate\r\n"),
-        (b"PBSZ 0\r\n", b"pass"),
-    ] {
-        assert_eq!(rt; heard(&mut words, rt.alloc(), false, line)?.as_slice(), due);
-    }
-    Ok(())
+fn files_are_renamed_and_removed(rt: HostRuntime) {
+    compare(&rt, rt.alloc(), true, &OF_FILES);
+}
+
+const BEFORE_THE_LOGIN: [Row; 6] = [
+    (b"DELE /usr/dm/f\r\n", b"530 Please authenticate\r\n"),
+    (b"PWD\r\n", b"530 Please authenticate\r\n"),
+    (b"RETR /usr/dm/none\r\n", b"pass"),
+    (b"OPTS UTF8 ON\r\n", b"200 Always in UTF8 mode\r\n"),
+    (b"EPSV\r\n", b"530 Please authenticate\r\n"),
+    (b"PBSZ 0\r\n", b"pass"),
+];
+
+#[test]
+fn before_the_login_only_open_words_are_answered(rt: HostRuntime) {
+    compare(&rt, rt.alloc(), false, &BEFORE_THE_LOGIN);
 }

@@ -21,12 +21,14 @@ mod options;
 #[cfg(test)]
 mod proxy;
 #[cfg(test)]
-mod proxy2_causes;
+mod proxy2;
 #[cfg(test)]
-mod proxy2_headers;
+mod same;
 #[cfg(test)]
 mod storage;
 #[cfg(test)]
 mod stuck;
 #[cfg(test)]
 mod transfers;
+#[cfg(test)]
+mod values;

@@ -1,13 +1,23 @@
 //! A link is lent and written through.
 
+use crate::same::same;
 use ftp_base::{Failed, InsertError, Link, LinkTable, MemoryLink};
 use std::alloc::{AllocError, Global};
-use std::test::Fail;
 
-/// A link that gives bytes, two in a call.
-fn link(input: &[u8], alloc: Global) -> Result<MemoryLink, AllocError> {
+/// Inserts a link that gives bytes, two in a call, and says whether its number was free.
+fn is_inserted(
+    table: &mut LinkTable<MemoryLink>,
+    alloc: Global,
+    number: u64,
+    input: &[u8],
+) -> Result<bool, AllocError> {
     let input = input.to_vec(alloc)?;
-    Ok(MemoryLink::new(alloc, input, 2, Vec::new(alloc)))
+    let link = MemoryLink::new(alloc, input, 2, Vec::new(alloc));
+    match table.insert(number, link) {
+        Ok(()) => Ok(true),
+        Err(InsertError::Taken(_)) => Ok(false),
+        Err(InsertError::OutOfMemory(_)) => Err(AllocError),
+    }
 }
 
 /// Reads from the link at a number.
@@ -30,31 +40,23 @@ fn close_at(table: &mut LinkTable<MemoryLink>, number: u64) -> Option<bool> {
     Some(table.get(number)?.is_closed())
 }
 
-#[test]
-fn a_number_has_one_link(rt: HostRuntime) -> Result<(), Fail> {
-    let alloc = rt.alloc();
-    let mut table = LinkTable::new(alloc);
-    assert!(rt; table.insert(7, link(b"abc", alloc)?).is_ok());
-    assert!(rt;
-        matches!(
-            table.insert(7, link(b"xyz", alloc)?),
-            Err(InsertError::Taken(_))
-        )
-    );
-    assert_eq!(rt; table.numbers(alloc)?.as_slice(), [7].as_slice());
-    Ok(())
-}
+const INSERTED: [(&[u8], bool); 2] = [(b"abc", true), (b"xyz", false)];
+
+const READ: [(u64, Option<Result<usize, Failed>>); 2] = [(7, Some(Ok(2))), (8, None)];
 
 #[test]
-fn a_link_is_lent_by_its_number(rt: HostRuntime) -> Result<(), Fail> {
-    let alloc = rt.alloc();
-    let mut table = LinkTable::new(alloc);
-    assert!(rt; table.insert(7, link(b"abc", alloc)?).is_ok());
-    let mut out = [0; 4];
-    for (number, read) in [(7, Some(Ok(2))), (8, None)] {
-        assert_eq!(rt; read_at(&mut table, number, &mut out), read);
-        assert_eq!(rt; out.as_slice(), b"ab\0\0".as_slice());
+fn a_number_has_one_link_which_is_lent(rt: HostRuntime) {
+    let mut table = LinkTable::new(rt.alloc());
+    for (input, is_free) in &INSERTED {
+        let inserted = is_inserted(&mut table, rt.alloc(), 7, input);
+        same(&rt, &inserted, &Ok(*is_free));
     }
-    assert_eq!(rt; close_at(&mut table, 7), Some(true));
-    Ok(())
+    let numbers = table.numbers(rt.alloc()).expect(&rt, "numbers");
+    same(&rt, &numbers.as_slice(), &[7].as_slice());
+    let mut out = [0; 4];
+    for (number, read) in &READ {
+        same(&rt, &read_at(&mut table, *number, &mut out), read);
+        same(&rt, &out, b"ab\0\0");
+    }
+    same(&rt, &close_at(&mut table, 7), &Some(true));
 }

@@ -1,107 +1,111 @@
 //! Listings and files of one tree.
 
-use ftp_base::{Bytes, FileInfo, MemoryStorage, Storage, StoreError};
+use crate::same::same;
+use crate::values::{File, storage};
+use ftp_base::{Bytes, FileBytes, MemoryStorage, Storage, StoreError};
 use std::alloc::Global;
-use std::test::Fail;
 
-/// A storage with three directories, and files in them, in the root and beside names that begin alike.
-///
+/// Three directories, and files in them, in the root and beside names that begin alike.
+const DIRECTORIES: [&[u8]; 3] = [b"/d", b"/d/c", b"/d/c/e"];
+
 /// Each file holds its path without the first byte.
+const FILES: [File<'static>; 7] = [
+    (b"/d/c0", b"d/c0"),
+    (b"/d/c/e/f", b"d/c/e/f"),
+    (b"/x", b"x"),
+    (b"y", b""),
+    (b"/d/c-x", b"d/c-x"),
+    (b"//x", b"/x"),
+    (b"/d/a", b"d/a"),
+];
+
 fn tree(alloc: Global) -> Result<MemoryStorage, StoreError> {
-    let mut storage = MemoryStorage::new(alloc, 9, Vec::new(alloc));
-    for path in [b"/d".as_slice(), b"/d/c", b"/d/c/e"] {
-        storage.mkdir(Bytes::from_slice(alloc, path)?)?;
-    }
-    for path in [
-        b"/d/c0".as_slice(),
-        b"/d/c/e/f",
-        b"/x",
-        b"y",
-        b"/d/c-x",
-        b"//x",
-        b"/d/a",
-    ] {
-        storage.put_file(Bytes::from_slice(alloc, path)?, path[1..].to_vec(alloc)?)?;
-    }
-    Ok(storage)
+    storage(alloc, 9, &[], &DIRECTORIES, &FILES)
 }
 
-fn list(alloc: Global, dir: &[u8]) -> Result<Vec<FileInfo>, StoreError> {
+/// The names in a directory, a line each with the length behind it.
+fn listing(alloc: Global, dir: &[u8]) -> Result<String, StoreError> {
     let user = Bytes::from_slice(alloc, b"user")?;
-    tree(alloc)?.list(&user, &Bytes::from_slice(alloc, dir)?)
-}
-
-#[test]
-fn a_listing_shows_the_children_in_their_order(rt: HostRuntime) -> Result<(), Fail> {
-    for (dir, children) in [
-        (
-            b"/d".as_slice(),
-            [(b"a".as_slice(), 3), (b"c", 0), (b"c-x", 5), (b"c0", 4)],
-        ),
-        (b"/", [(b"d", 0), (b"x", 2), (b"x", 1), (b"y", 0)]),
-    ] {
-        let infos = list(rt.alloc(), dir)?;
-        assert_eq!(rt; infos.len(), children.len());
-        for (info, (name, len)) in infos.iter().zip(children) {
-            assert_eq!(rt; info.name.as_slice(), name);
-            assert_eq!(rt; info.meta.len, len);
-        }
+    let infos = tree(alloc)?.list(&user, &Bytes::from_slice(alloc, dir)?)?;
+    let mut text = String::new(alloc);
+    for info in infos.as_slice() {
+        let name = String::from_utf8_lossy(alloc, info.name.as_slice())?;
+        text.push_str(format!(in alloc; "{name} {}\n", info.meta.len)?.as_str())?;
     }
-    Ok(())
+    Ok(text)
 }
 
+const LISTINGS: [(&[u8], &str); 2] = [
+    (b"/d", "a 3\nc 0\nc-x 5\nc0 4\n"),
+    (b"/", "d 0\nx 2\nx 1\ny 0\n"),
+];
+
 #[test]
-fn a_file_that_is_lent_stays_as_it_is(rt: HostRuntime) -> Result<(), Fail> {
-    let alloc = rt.alloc();
+fn a_listing_shows_the_children_in_their_order(rt: HostRuntime) {
+    for (dir, lines) in &LISTINGS {
+        let found = listing(rt.alloc(), dir).expect(&rt, "a listing");
+        same(&rt, &found.as_str(), lines);
+    }
+}
+
+/// The bytes that a storage lends of a file.
+fn lent(storage: &MemoryStorage, alloc: Global, path: &[u8]) -> Result<FileBytes, StoreError> {
+    let user = Bytes::from_slice(alloc, b"user")?;
+    let path = Bytes::from_slice(alloc, path)?;
+    storage.lend(&user, &path).ok_or(StoreError::Failed)
+}
+
+/// Writes two bytes behind `/x`.
+fn append(storage: &mut MemoryStorage, alloc: Global) -> Result<(), StoreError> {
     let user = Bytes::from_slice(alloc, b"user")?;
     let path = Bytes::from_slice(alloc, b"/x")?;
-    let mut storage = tree(alloc)?;
-    let before = storage.lend(&user, &path);
-    storage.append(&user, &path, b"yz")?;
-    let behind = storage.lend(&user, &path);
-    storage.begin(&user, &path, 0)?;
-    for (lent, bytes) in [(before, b"x".as_slice()), (behind, b"xyz")] {
-        assert_eq!(rt; lent.as_ref().map(|lent| lent.as_slice()), Some(bytes));
-    }
-    Ok(())
+    storage.append(&user, &path, b"yz")
 }
 
-#[test]
-fn a_directory_is_not_lent_nor_a_file_where_a_call_is_to_fail(rt: HostRuntime) -> Result<(), Fail> {
-    let alloc = rt.alloc();
-    let mut failing = MemoryStorage::new(alloc, 9, [5].to_vec(alloc)?);
-    failing.put_file(Bytes::from_slice(alloc, b"/x")?, b"x".to_vec(alloc)?)?;
+/// Cuts `/x` off at its front.
+fn cut(storage: &mut MemoryStorage, alloc: Global) -> Result<(), StoreError> {
     let user = Bytes::from_slice(alloc, b"user")?;
-    for (storage, path) in [
-        (tree(alloc)?, b"/".as_slice()),
-        (tree(alloc)?, b"/d"),
-        (tree(alloc)?, b"/none"),
-        (failing, b"/x"),
-    ] {
-        assert!(rt;
-            storage
-                .lend(&user, &Bytes::from_slice(alloc, path)?)
-                .is_none()
-        );
-    }
-    Ok(())
+    let path = Bytes::from_slice(alloc, b"/x")?;
+    storage.begin(&user, &path, 0)
 }
 
 #[test]
-fn files_come_in_byte_order_of_their_paths(rt: HostRuntime) -> Result<(), Fail> {
-    let storage = tree(rt.alloc())?;
-    let mut files = storage.files();
-    for path in [
-        b"//x".as_slice(),
-        b"/d/a",
-        b"/d/c-x",
-        b"/d/c/e/f",
-        b"/d/c0",
-        b"/x",
-        b"y",
-    ] {
-        assert_eq!(rt; files.next(), Some((path, &path[1..])));
+fn a_file_that_is_lent_stays_as_it_is(rt: HostRuntime) {
+    let mut storage = tree(rt.alloc()).expect(&rt, "a tree");
+    let before = lent(&storage, rt.alloc(), b"/x").expect(&rt, "a file");
+    append(&mut storage, rt.alloc()).expect(&rt, "room");
+    let behind = lent(&storage, rt.alloc(), b"/x").expect(&rt, "a file");
+    cut(&mut storage, rt.alloc()).expect(&rt, "a cut");
+    same(&rt, &before.as_slice(), &b"x".as_slice());
+    same(&rt, &behind.as_slice(), &b"xyz".as_slice());
+}
+
+#[test]
+fn a_directory_is_not_lent_nor_a_file_where_a_call_is_to_fail(rt: HostRuntime) {
+    let tree = tree(rt.alloc()).expect(&rt, "a tree");
+    for path in [b"/".as_slice(), b"/d", b"/none"] {
+        same(&rt, &lent(&tree, rt.alloc(), path).is_ok(), &false);
     }
-    assert_eq!(rt; files.next(), None);
-    Ok(())
+    let failing = storage(rt.alloc(), 9, &[5], &[], &FILES[2..3]).expect(&rt, "a storage");
+    same(&rt, &lent(&failing, rt.alloc(), b"/x").is_ok(), &false);
+}
+
+/// The files of a tree, a line each of the path and the bytes.
+fn files(alloc: Global) -> Result<Vec<u8>, StoreError> {
+    let storage = tree(alloc)?;
+    let mut text = Vec::new(alloc);
+    for (path, bytes) in storage.files() {
+        text.extend_from_slice(path)?;
+        text.extend_from_slice(b" ")?;
+        text.extend_from_slice(bytes)?;
+        text.extend_from_slice(b"\n")?;
+    }
+    Ok(text)
+}
+
+#[test]
+fn files_come_in_byte_order_of_their_paths(rt: HostRuntime) {
+    let lines = b"//x /x\n/d/a d/a\n/d/c-x d/c-x\n/d/c/e/f d/c/e/f\n/d/c0 d/c0\n/x x\ny \n";
+    let found = files(rt.alloc()).expect(&rt, "files");
+    same(&rt, &found.as_slice(), &lines.as_slice());
 }

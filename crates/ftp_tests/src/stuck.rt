@@ -2,10 +2,12 @@
 
 ghost use Rattle.std.specs.Prelude.{true, None, refl};
 
-use ftp_base::{Bytes, DataChanCmd, ErrorKind, Failed, Link, LinkFault, MemoryStorage, Source};
-use ftp_transfer::{Completion, Job, Outcome, Ticket, execute};
-use std::alloc::{AllocError, Global};
-use std::test::Fail;
+use crate::same::same;
+use crate::transfers::trial::{RETR, Trial, Word};
+use crate::values::storage;
+use ftp_base::{ErrorKind, Failed, Link, LinkFault, Source, StoreError};
+use ftp_transfer::{Completion, Outcome};
+use std::alloc::Global;
 
 /// Takes all that is written, gives nothing, and is reset where it is to send.
 #[derive(Drop)]
@@ -52,70 +54,50 @@ impl Link for StuckLink {
     ghost connects = { refl };
 }
 
-/// A storage with `abc` under `/a`.
-fn storage(alloc: Global) -> Result<MemoryStorage, Fail> {
-    let mut storage = MemoryStorage::new(alloc, 100, Vec::new(alloc));
-    storage.put_file(Bytes::from_slice(alloc, b"/a")?, b"abc".to_vec(alloc)?)?;
-    Ok(storage)
-}
-
-fn job(alloc: Global, command: DataChanCmd, path: &[u8]) -> Result<Job, AllocError> {
-    Ok(Job {
-        ticket: Ticket { session: 1, nr: 1 },
-        user: Bytes::from_slice(alloc, b"ann")?,
-        command,
-        path: Bytes::from_slice(alloc, path)?,
-        offset: 0,
-        number: 11,
-        done: 0,
-    })
-}
-
-/// Runs a job over the link.
-fn run(alloc: Global, job: Job) -> Result<Outcome, Fail> {
+/// Runs a transfer over the link, with `abc` under `/a`.
+fn run(alloc: Global, word: Word, path: &[u8]) -> Result<Outcome, StoreError> {
+    let mut storage = storage(alloc, 100, &[], &[], &[(b"/a", b"abc")])?;
     let mut link = StuckLink {
         faults: 0,
         last_fault: None,
         closed: false,
     };
-    Ok(execute(alloc, job, &mut storage(alloc)?, &mut link))
+    let trial = Trial { word, path, ..RETR };
+    Ok(trial.outcome(alloc, &mut storage, &mut link)?)
 }
 
-/// The outcome of a transfer whose link was reset.
-fn reset(completion: Completion, bytes: u64) -> Outcome {
-    Outcome {
-        result: completion,
-        bytes,
-        fault: Some(LinkFault::Reset),
+/// The outcome of a download whose link was reset.
+const RESET: Outcome = Outcome {
+    result: Completion::Refused(ErrorKind::ConnectionClosed),
+    bytes: 3,
+    fault: Some(LinkFault::Reset),
+};
+
+const ROWS: [(Word, &[u8], Outcome); 3] = [
+    (Word::Retr, b"/a", RESET),
+    (
+        Word::Nlst,
+        b"/",
+        Outcome {
+            result: Completion::WriteFailed,
+            ..RESET
+        },
+    ),
+    // An upload gathers nothing to send.
+    (
+        Word::Stor,
+        b"/b",
+        Outcome {
+            result: Completion::Written,
+            bytes: 0,
+            fault: None,
+        },
+    ),
+];
+
+#[test]
+fn what_was_gathered_and_not_sent_is_told_as_at_a_failed_write(rt: HostRuntime) {
+    for (word, path, outcome) in &ROWS {
+        same(&rt, &run(rt.alloc(), *word, path), &Ok(*outcome));
     }
-}
-
-#[test]
-fn what_was_gathered_and_not_sent_is_told_as_at_a_failed_write(
-    rt: HostRuntime,
-) -> Result<(), Fail> {
-    let alloc = rt.alloc();
-    let path = Bytes::from_slice(alloc, b"/a")?;
-    let sending = job(alloc, DataChanCmd::Retr { path }, b"/a")?;
-    assert_eq!(rt;
-        run(alloc, sending)?,
-        reset(Completion::Refused(ErrorKind::ConnectionClosed), 3)
-    );
-    let listing = job(alloc, DataChanCmd::Nlst { path: None }, b"/")?;
-    assert_eq!(rt; run(alloc, listing)?, reset(Completion::WriteFailed, 3));
-    Ok(())
-}
-
-#[test]
-fn an_upload_gathers_nothing_to_send(rt: HostRuntime) -> Result<(), Fail> {
-    let alloc = rt.alloc();
-    let path = Bytes::from_slice(alloc, b"/b")?;
-    let storing = job(alloc, DataChanCmd::Stor { path }, b"/b")?;
-    let written = Outcome {
-        result: Completion::Written,
-        bytes: 0,
-        fault: None,
-    };
-    assert_eq!(rt; run(alloc, storing)?, written);
-    Ok(())
 }

@@ -1,12 +1,13 @@
 //! A transfer over memory, with what stands before it and what it leaves.
 
-use ftp_base::{Bytes, DataChanCmd, LinkFault, MemoryLink, MemoryStorage, Storage};
+use ftp_base::{
+    Bytes, DataChanCmd, Link, LinkFault, MemoryLink, MemoryStorage, Meta, Storage, StoreError,
+};
 use ftp_transfer::{Job, Outcome, PieceResult, Ticket, execute, execute_piece};
 use std::alloc::{AllocError, Global};
-use std::test::Fail;
 
 /// The words of the commands.
-#[derive(Clone, Copy, Debug)]
+#[derive(Clone, Copy)]
 pub enum Word {
     Retr,
     Stor,
@@ -40,28 +41,25 @@ pub struct Trial<'a> {
     pub offset: u64,
     /// What the link gives.
     pub input: &'a [u8],
-    /// How many bytes the link moves in a call; at least 1.
-    pub chunk: u32,
-    /// The call of the link that fails.
-    pub fails: Option<(u64, LinkFault)>,
+    pub fails: Option<Fails>,
 }
 
-/// A transfer of nothing from the front, none of whose calls fails.
-pub fn plain<'a>(word: Word, path: &'a [u8]) -> Trial<'a> {
-    Trial {
-        word,
-        path,
-        offset: 0,
-        input: b"",
-        chunk: 65536,
-        fails: None,
-    }
-}
+/// How many bytes a link moves in a call, which call fails, and how.
+pub type Fails = (u32, u64, LinkFault);
+
+/// Sends `/a` from the front. No call fails.
+pub const RETR: Trial<'static> = Trial {
+    word: Word::Retr,
+    path: b"/a",
+    offset: 0,
+    input: b"",
+    fails: None,
+};
 
 /// How a transfer ended, what its link was sent, and what file then stands at its path.
 #[derive(Drop)]
 pub struct Left {
-    pub outcome: Outcome,
+    pub outcome: Option<Outcome>,
     pub sent: Vec<u8>,
     pub file: Option<Vec<u8>>,
 }
@@ -80,12 +78,60 @@ impl<'a> Trial<'a> {
     }
 
     fn link(&self, alloc: Global) -> Result<MemoryLink, AllocError> {
-        let fails = match self.fails {
-            Some(call) => [call].to_vec(alloc)?,
-            None => Vec::new(alloc),
-        };
         let input = self.input.to_vec(alloc)?;
-        Ok(MemoryLink::new(alloc, input, self.chunk.max(1), fails))
+        match self.fails {
+            None => Ok(MemoryLink::new(alloc, input, 65536, Vec::new(alloc))),
+            Some((chunk, call, fault)) => {
+                let fails = [(call, fault)].to_vec(alloc)?;
+                Ok(MemoryLink::new(alloc, input, chunk.max(1), fails))
+            }
+        }
+    }
+
+    /// Runs the transfer over a link, and says how it ended.
+    pub fn outcome<L: Link>(
+        &self,
+        alloc: Global,
+        storage: &mut MemoryStorage,
+        link: &mut L,
+    ) -> Result<Outcome, AllocError> {
+        let job = self.job(alloc)?;
+        Ok(execute(alloc, job, storage, link))
+    }
+
+    /// Runs the transfer a piece after another, says how it ended, and how many bytes each piece moved that was not the last.
+    fn pieces(
+        &self,
+        alloc: Global,
+        storage: &mut MemoryStorage,
+        link: &mut MemoryLink,
+    ) -> Result<(Option<Outcome>, Vec<u64>), AllocError> {
+        let mut job = self.job(alloc)?;
+        let mut pieces = Vec::new(alloc);
+        for _ in 0..u64::MAX {
+            match execute_piece(alloc, &mut job, storage, link) {
+                PieceResult::More { bytes } => pieces.push(bytes)?,
+                PieceResult::Ended(outcome) => return Ok((Some(outcome), pieces)),
+            }
+        }
+        Ok((None, pieces))
+    }
+
+    /// What a transfer that ended so left.
+    fn left(
+        &self,
+        alloc: Global,
+        storage: &mut MemoryStorage,
+        link: &MemoryLink,
+        outcome: Option<Outcome>,
+    ) -> Result<Left, StoreError> {
+        let sent = link.sent().to_vec(alloc)?;
+        let file = file_in(storage, self.path, alloc)?;
+        Ok(Left {
+            outcome,
+            sent,
+            file,
+        })
     }
 
     /// Runs the transfer a piece after another, and says how many bytes each piece moved that was not the last.
@@ -93,36 +139,18 @@ impl<'a> Trial<'a> {
         &self,
         storage: &mut MemoryStorage,
         alloc: Global,
-    ) -> Result<(Left, Vec<u64>), Fail> {
-        let mut job = self.job(alloc)?;
+    ) -> Result<(Left, Vec<u64>), StoreError> {
         let mut link = self.link(alloc)?;
-        let mut pieces = Vec::new(alloc);
-        for _ in 0..u64::MAX {
-            match execute_piece(alloc, &mut job, storage, &mut link) {
-                PieceResult::More { bytes } => pieces.push(bytes)?,
-                PieceResult::Ended(outcome) => {
-                    let left = Left {
-                        outcome,
-                        sent: link.sent().to_vec(alloc)?,
-                        file: file_in(storage, self.path, alloc)?,
-                    };
-                    return Ok((left, pieces));
-                }
-            }
-        }
-        Err(Fail::new(format_args!("no end")))
+        let (outcome, pieces) = self.pieces(alloc, storage, &mut link)?;
+        let left = self.left(alloc, storage, &link, outcome)?;
+        Ok((left, pieces))
     }
 
     /// Runs the transfer.
-    pub fn run(&self, storage: &mut MemoryStorage, alloc: Global) -> Result<Left, Fail> {
-        let job = self.job(alloc)?;
+    pub fn run(&self, storage: &mut MemoryStorage, alloc: Global) -> Result<Left, StoreError> {
         let mut link = self.link(alloc)?;
-        let outcome = execute(alloc, job, storage, &mut link);
-        Ok(Left {
-            outcome,
-            sent: link.sent().to_vec(alloc)?,
-            file: file_in(storage, self.path, alloc)?,
-        })
+        let outcome = self.outcome(alloc, storage, &mut link)?;
+        self.left(alloc, storage, &link, Some(outcome))
     }
 }
 
@@ -131,14 +159,15 @@ fn file_in(
     storage: &mut MemoryStorage,
     path: &[u8],
     alloc: Global,
-) -> Result<Option<Vec<u8>>, Fail> {
+) -> Result<Option<Vec<u8>>, StoreError> {
     let ann = Bytes::from_slice(alloc, b"ann")?;
     let path = Bytes::from_slice(alloc, path)?;
-    let meta = match storage.metadata(&ann, &path) {
-        Ok(meta) if !meta.is_dir => meta,
-        _ => return Ok(None),
-    };
-    let mut bytes = vec![in alloc; 0; meta.len as usize]?;
-    storage.read_at(&ann, &path, 0, bytes.as_mut_slice())?;
-    Ok(Some(bytes))
+    match storage.metadata(&ann, &path) {
+        Ok(Meta { is_dir: false, len }) => {
+            let mut bytes = vec![in alloc; 0; len as usize]?;
+            storage.read_at(&ann, &path, 0, bytes.as_mut_slice())?;
+            Ok(Some(bytes))
+        }
+        _ => Ok(None),
+    }
 }
