@@ -1,5 +1,6 @@
 //! A header of a proxy, and what came with it.
 
+use crate::same::same;
 use ftp_base::{Control, IpAddr, LinkFault, MemoryLink, SocketAddr, Source};
 use ftp_proxy::{ProxyHeader, read_proxy_header};
 use ftp_system::{Ahead, Gathered, gathering_buffer};
@@ -30,19 +31,21 @@ fn a_header_is_read_in_one_call_and_then_what_came_with_it(rt: HostRuntime) {
         passed_on(alloc).expect(&rt, "a link"),
         gathering_buffer(alloc).expect(&rt, "a buffer"),
     );
-    assert_eq!(rt; read_proxy_header(&mut gathered), Ok(HEADER));
+    same(&rt, &read_proxy_header(&mut gathered), &Ok(HEADER));
     let (link, _, rest) = gathered.into_rest(alloc).expect(&rt, "the rest");
     let mut ahead = Ahead::new(link, rest);
     let mut taken = [0; 3];
-    assert_eq!(rt;
-        (ahead.ready(0), ahead.read(&mut taken), &taken),
-        (Ok(true), Ok(3), b"USE")
+    same(
+        &rt,
+        &(ahead.ready(0), ahead.read(&mut taken), &taken),
+        &(Ok(true), Ok(3), b"USE"),
     );
-    assert_eq!(rt;
-        (ahead.ready(0), ahead.read(&mut taken), &taken),
-        (Ok(true), Ok(1), b"RSE")
+    same(
+        &rt,
+        &(ahead.ready(0), ahead.read(&mut taken), &taken),
+        &(Ok(true), Ok(1), b"RSE"),
     );
     // Then it is the connection that is asked.
-    assert!(rt; ahead.read(&mut taken).is_err());
-    assert!(rt; ahead.inner().sent().is_empty());
+    same(&rt, &(ahead.read(&mut taken).is_err()), &true);
+    same(&rt, &(ahead.inner().sent().is_empty()), &true);
 }

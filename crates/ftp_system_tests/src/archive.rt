@@ -1,67 +1,87 @@
 //! An archive over a real directory, what it removes, and its dates.
 
 use crate::calls::{Call, archive_answer, call_of};
-use crate::disk::{make_base, storage, storage_within, write};
-use ftp_base::Bytes;
+use crate::disk::{make_base, remove, storage, storage_within, write};
+use crate::same::same;
+use ftp_base::{Bytes, ErrorKind, StoreError};
 use ftp_disk::Budget;
 use ftp_extras::Archive;
 use std::alloc::Global;
-use std::fs;
 use std::process::Abort;
+
+/// The kind of a call, its two paths, and the answer that is due.
+type Row = (u64, &'static str, &'static str, &'static str);
+
+const PUT: &str = "[Ok(()), Ok(()), Err(Kind(PermanentFileNotAvailable))]";
+
+const FULL: &str =
+    "[Ok(()), Err(Kind(ExceededStorageAllocationError)), Err(Kind(PermanentFileNotAvailable))]";
+
+const GIVEN_BACK: [Row; 10] = [
+    (5, "/a", "/x", PUT),
+    (5, "/b", "/x", PUT),
+    (5, "/c", "/x", FULL),
+    (1, "/c", "", "Ok(())"),
+    (1, "/a", "", "Ok(())"),
+    (5, "/c", "/x", PUT),
+    (4, "/c", "/b", "Ok(())"),
+    (5, "/c", "/x", PUT),
+    (4, "/c", "/c", "Ok(())"),
+    (5, "/a", "/x", FULL),
+];
+
+/// Compares the answers of an archive with those that are due.
+fn compare<A: Abort, S: Archive>(rt: &A, alloc: Global, archive: &mut S, rows: &[Row]) {
+    for (kind, path, other, due) in rows {
+        let call = Call {
+            other,
+            ..call_of(*kind, path)
+        };
+        let given = archive_answer(rt, archive, alloc, call);
+        same(rt, &(*kind, *path, given.as_str()), &(*kind, *path, *due));
+    }
+}
 
 #[test]
 fn what_is_removed_or_replaced_gives_its_bytes_back(rt: HostRuntime) {
-    let alloc = rt.alloc();
     let base = make_base(&rt, "freed").expect(&rt, "a base");
-    let budget = Budget::new(alloc, 7, 0).expect(&rt, "a budget");
-    let mut disk = storage_within(rt, alloc, base.as_str(), &budget);
-    let put = "Ok(()) Ok(()) Err(Kind(PermanentFileNotAvailable))";
-    let full =
-        "Ok(()) Err(Kind(ExceededStorageAllocationError)) Err(Kind(PermanentFileNotAvailable))";
-    for (kind, path, other, due) in [
-        (5, "/a", "/x", put),
-        (5, "/b", "/x", put),
-        (5, "/c", "/x", full),
-        (1, "/c", "", "Ok(())"),
-        (1, "/a", "", "Ok(())"),
-        (5, "/c", "/x", put),
-        (4, "/c", "/b", "Ok(())"),
-        (5, "/c", "/x", put),
-        (4, "/c", "/c", "Ok(())"),
-        (5, "/a", "/x", full),
-    ] {
-        let call = Call {
-            other,
-            ..call_of(kind, path)
-        };
-        let given = archive_answer(&rt, &mut disk, alloc, call);
-        assert_eq!(rt; given.as_str(), due, "{kind} {path} {other}");
-    }
-    fs::remove_dir_all(&rt, base.as_str()).expect(&rt, "an end");
+    let budget = Budget::new(rt.alloc(), 7, 0).expect(&rt, "a budget");
+    let mut disk = storage_within(rt, rt.alloc(), base.as_str(), &budget);
+    compare(&rt, rt.alloc(), &mut disk, &GIVEN_BACK);
+    remove(&rt, base.as_str());
 }
 
-/// What an archive answers to a date of `/a` that there is and to one that there is not, and whether it tells the first.
-fn set_dates<A: Abort, S: Archive>(rt: &A, archive: &mut S, alloc: Global) -> String {
-    let ann = Bytes::from_slice(alloc, b"ann").expect(rt, "a name");
-    let path = Bytes::from_slice(alloc, b"/a").expect(rt, "a path");
-    let good = Bytes::from_slice(alloc, b"20240229235959").expect(rt, "a date");
-    let bad = Bytes::from_slice(alloc, b"20230229000000").expect(rt, "a date");
-    let set = archive.set_modified(&ann, &path, &good);
-    let refused = archive.set_modified(&ann, &path, &bad);
-    let found = archive.look(&ann, &path).expect(rt, "a file");
-    let is_told = found.modified == Some(*b"20240229235959");
-    format!(in alloc; "{set:?} {refused:?} {is_told}").expect(rt, "a text")
+/// A date of the file `/a`.
+fn set<S: Archive>(archive: &mut S, alloc: Global, date: &[u8]) -> Result<(), StoreError> {
+    let ann = Bytes::from_slice(alloc, b"ann")?;
+    let path = Bytes::from_slice(alloc, b"/a")?;
+    archive.set_modified(&ann, &path, &Bytes::from_slice(alloc, date)?)
 }
+
+/// The date that an archive tells of the file `/a`.
+fn told<S: Archive>(archive: &mut S, alloc: Global) -> Result<Option<[u8; 14]>, StoreError> {
+    let ann = Bytes::from_slice(alloc, b"ann")?;
+    let path = Bytes::from_slice(alloc, b"/a")?;
+    Ok(archive.look(&ann, &path)?.modified)
+}
+
+const NO_DATE: StoreError = StoreError::Kind(ErrorKind::CommandNotImplemented);
 
 #[test]
 fn a_date_that_is_set_is_told(rt: HostRuntime) {
-    let alloc = rt.alloc();
     let base = make_base(&rt, "dated").expect(&rt, "a base");
-    write(&rt, alloc, base.as_str(), "/home/a", b"1");
-    let mut disk = storage(rt, alloc, base.as_str());
-    assert_eq!(rt;
-        set_dates(&rt, &mut disk, alloc).as_str(),
-        "Ok(()) Err(Kind(CommandNotImplemented)) true"
+    write(&rt, rt.alloc(), base.as_str(), "/home/a", b"1");
+    let mut disk = storage(rt, rt.alloc(), base.as_str());
+    same(&rt, &set(&mut disk, rt.alloc(), b"20240229235959"), &Ok(()));
+    same(
+        &rt,
+        &set(&mut disk, rt.alloc(), b"20230229000000"),
+        &Err(NO_DATE),
     );
-    fs::remove_dir_all(&rt, base.as_str()).expect(&rt, "an end");
+    same(
+        &rt,
+        &told(&mut disk, rt.alloc()),
+        &Ok(Some(*b"20240229235959")),
+    );
+    remove(&rt, base.as_str());
 }

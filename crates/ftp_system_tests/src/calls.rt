@@ -1,11 +1,14 @@
 //! Calls of storages and archives, and their answers as texts.
 
-use ftp_base::{Bytes, Storage};
+use crate::same::{printed, same};
+use ftp_base::{Bytes, FileInfo, Storage, StoreResult};
 use ftp_extras::Archive;
 use std::alloc::Global;
 use std::process::Abort;
 
 /// What is asked of a storage or of an archive, which may be asked for two paths.
+///
+/// Of a storage the kinds are 0 for a look, 1 for a listing, 2 for a read, 3 for a beginning, 6 for an end and others for bytes.
 #[derive(Clone, Copy)]
 pub struct Call {
     pub kind: u64,
@@ -47,6 +50,15 @@ fn bytes(rt: &impl Abort, alloc: Global, text: &str) -> Bytes {
     Bytes::from_slice(alloc, text.as_bytes()).expect(rt, "bytes")
 }
 
+/// What is listed, without modes and dates.
+fn listed<S: Storage>(storage: &mut S, user: &Bytes, path: &Bytes) -> StoreResult<Vec<FileInfo>> {
+    let mut infos = storage.list(user, path)?;
+    for info in infos.iter_mut() {
+        info.looks = None;
+    }
+    Ok(infos)
+}
+
 /// What a storage answers, as a text without modes and dates.
 pub fn answer<A: Abort, S: Storage>(
     rt: &A,
@@ -57,36 +69,38 @@ pub fn answer<A: Abort, S: Storage>(
 ) -> String {
     let user = bytes(rt, alloc, user);
     let path = bytes(rt, alloc, call.path);
-    let text = match call.kind {
-        0 => {
-            let found = storage.metadata(&user, &path);
-            format!(in alloc; "{found:?}")
-        }
-        1 => {
-            let mut found = storage.list(&user, &path);
-            if let Ok(infos) = &mut found {
-                for info in infos.iter_mut() {
-                    info.looks = None;
-                }
-            }
-            format!(in alloc; "{found:?}")
-        }
+    match call.kind {
+        0 => printed(rt, alloc, &storage.metadata(&user, &path)),
+        1 => printed(rt, alloc, &listed(storage, &user, &path)),
         2 => {
             let mut out = [0; 4];
             let n = storage.read_at(&user, &path, u64::from(call.number), &mut out);
-            format!(in alloc; "{n:?} {out:?}")
+            printed(rt, alloc, &(n, out))
         }
-        3 => {
-            let begun = storage.begin(&user, &path, u64::from(call.number));
-            format!(in alloc; "{begun:?}")
-        }
+        3 => printed(
+            rt,
+            alloc,
+            &storage.begin(&user, &path, u64::from(call.number)),
+        ),
+        6 => printed(rt, alloc, &storage.settle(&user, &path)),
         _ => {
             let bytes = [call.number, call.number ^ 1, call.number ^ 2];
-            let grown = storage.append(&user, &path, &bytes);
-            format!(in alloc; "{grown:?}")
+            printed(rt, alloc, &storage.append(&user, &path, &bytes))
         }
-    };
-    text.expect(rt, "a text")
+    }
+}
+
+/// A file of three bytes is begun, and what was open is closed by a read of another file.
+fn put<S: Archive>(
+    archive: &mut S,
+    ann: &Bytes,
+    path: &Bytes,
+    other: &Bytes,
+) -> [StoreResult<()>; 3] {
+    let begun = archive.begin(ann, path, 0);
+    let grown = archive.append(ann, path, b"abc");
+    let read = archive.read_at(ann, other, 0, &mut [0; 1]);
+    [begun, grown, read.map(|_| ())]
 }
 
 /// What an archive answers ann, as a text without dates. A file that is begun has three bytes.
@@ -99,36 +113,17 @@ pub fn archive_answer<A: Abort, S: Archive>(
     let ann = bytes(rt, alloc, "ann");
     let path = bytes(rt, alloc, call.path);
     let other = bytes(rt, alloc, call.other);
-    let text = match call.kind {
-        0 => match archive.look(&ann, &path) {
-            Ok(found) => format!(in alloc; "{:?}", found.meta),
-            Err(error) => format!(in alloc; "{error:?}"),
-        },
-        1 => {
-            let removed = archive.remove(&ann, &path);
-            format!(in alloc; "{removed:?}")
+    match call.kind {
+        0 => {
+            let found = archive.look(&ann, &path);
+            printed(rt, alloc, &found.map(|found| found.meta))
         }
-        2 => {
-            let made = archive.make_directory(&ann, &path);
-            format!(in alloc; "{made:?}")
-        }
-        3 => {
-            let removed = archive.remove_directory(&ann, &path);
-            format!(in alloc; "{removed:?}")
-        }
-        4 => {
-            let renamed = archive.rename(&ann, &path, &other);
-            format!(in alloc; "{renamed:?}")
-        }
-        _ => {
-            let begun = archive.begin(&ann, &path, 0);
-            let grown = archive.append(&ann, &path, b"abc");
-            // What was open is closed by a read of another file.
-            let read = archive.read_at(&ann, &other, 0, &mut [0; 1]);
-            format!(in alloc; "{begun:?} {grown:?} {read:?}")
-        }
-    };
-    text.expect(rt, "a text")
+        1 => printed(rt, alloc, &archive.remove(&ann, &path)),
+        2 => printed(rt, alloc, &archive.make_directory(&ann, &path)),
+        3 => printed(rt, alloc, &archive.remove_directory(&ann, &path)),
+        4 => printed(rt, alloc, &archive.rename(&ann, &path, &other)),
+        _ => printed(rt, alloc, &put(archive, &ann, &path, &other)),
+    }
 }
 
 /// Compares the answers of two storages with those that are due.
@@ -146,6 +141,6 @@ pub fn compare<A: Abort, S: Storage>(
             ..call_of(*kind, path)
         };
         let given = answer(rt, storage, alloc, "ann", call);
-        assert_eq!(rt; given.as_str(), *due, "{kind} {path} {number}");
+        same(rt, &(*kind, *path, given.as_str()), &(*kind, *path, *due));
     }
 }

@@ -1,6 +1,7 @@
 //! Control connections over sockets.
 
 use crate::loopback::{is_at_end, now, pair, receive, send, since};
+use crate::same::same;
 use ftp_base::{Control, Failed, Link, LinkFault, Source};
 use ftp_system::{ControlHandle, SocketControl};
 use std::alloc::Global;
@@ -27,12 +28,12 @@ fn controlled<R: Net<Listener = TcpListener, Stream = TcpStream> + Abort>(
 fn a_wait_ends_by_its_time(rt: HostRuntime) {
     let (client, mut control) = controlled(&rt, rt.alloc(), 0);
     let begun = now(&rt);
-    assert_eq!(rt; control.ready(100), Ok(false));
-    assert!(rt; since(&rt, begun) >= 100);
+    same(&rt, &control.ready(100), &Ok(false));
+    same(&rt, &(since(&rt, begun) >= 100), &true);
     control.set_patience(100);
     let begun = now(&rt);
-    assert_eq!(rt; control.ready(0), Ok(false));
-    assert!(rt; since(&rt, begun) >= 100);
+    same(&rt, &control.ready(0), &Ok(false));
+    same(&rt, &(since(&rt, begun) >= 100), &true);
     drop(client);
 }
 
@@ -42,19 +43,21 @@ fn a_line_and_its_reply_go_at_once(rt: HostRuntime) {
     let begun = now(&rt);
     let mut line = [0; 6];
     send(&rt, &client, b"NOOP\r\n");
-    assert_eq!(rt;
-        (control.ready(LONG), control.read(&mut line), &line),
-        (Ok(true), Ok(6), b"NOOP\r\n")
+    same(
+        &rt,
+        &(control.ready(LONG), control.read(&mut line), &line),
+        &(Ok(true), Ok(6), b"NOOP\r\n"),
     );
-    assert_eq!(rt; control.write(b"200 OK"), Ok(6));
+    same(&rt, &control.write(b"200 OK"), &Ok(6));
     receive(&rt, &client, &mut line);
-    assert_eq!(rt; &line, b"200 OK");
+    same(&rt, &line, b"200 OK");
     drop(client);
-    assert_eq!(rt;
-        (control.ready(LONG), control.read(&mut line)),
-        (Ok(true), Ok(0))
+    same(
+        &rt,
+        &(control.ready(LONG), control.read(&mut line)),
+        &(Ok(true), Ok(0)),
     );
-    assert!(rt; since(&rt, begun) < LONG as u128);
+    same(&rt, &(since(&rt, begun) < LONG as u128), &true);
 }
 
 /// Wakes the control connection after so many milliseconds.
@@ -69,14 +72,14 @@ fn another_thread_ends_a_wait(rt: HostRuntime) {
     let handle = control.handle().expect(&rt, "a handle");
     let begun = now(&rt);
     let (_, waited) = thread::join(&rt, || wake_later(&rt, &handle, 50), || control.ready(LONG));
-    assert_eq!(rt; waited, Ok(false));
+    same(&rt, &waited, &Ok(false));
     // A wake ends one wait, also where it came before that.
     handle.try_clone().expect(&rt, "a copy").wake();
-    assert_eq!(rt; control.ready(LONG), Ok(false));
-    assert!(rt; since(&rt, begun) < LONG as u128);
+    same(&rt, &control.ready(LONG), &Ok(false));
+    same(&rt, &(since(&rt, begun) < LONG as u128), &true);
     let begun = now(&rt);
-    assert_eq!(rt; control.ready(100), Ok(false));
-    assert!(rt; since(&rt, begun) >= 100);
+    same(&rt, &control.ready(100), &Ok(false));
+    same(&rt, &(since(&rt, begun) >= 100), &true);
     drop(client);
 }
 
@@ -84,13 +87,14 @@ fn another_thread_ends_a_wait(rt: HostRuntime) {
 fn another_thread_ends_a_connection(rt: HostRuntime) {
     let (client, mut control) = controlled(&rt, rt.alloc(), 0);
     control.handle().expect(&rt, "a handle").shut_down();
-    assert_eq!(rt;
-        (control.ready(LONG), control.read(&mut [0; 4])),
-        (Ok(true), Ok(0))
+    same(
+        &rt,
+        &(control.ready(LONG), control.read(&mut [0; 4])),
+        &(Ok(true), Ok(0)),
     );
-    assert_eq!(rt; control.write(b"x"), Err(Failed::Fault));
-    assert_eq!(rt; control.last_fault(), Some(LinkFault::BrokenPipe));
-    assert!(rt; is_at_end(&rt, &client));
+    same(&rt, &control.write(b"x"), &Err(Failed::Fault));
+    same(&rt, &control.last_fault(), &Some(LinkFault::BrokenPipe));
+    same(&rt, &is_at_end(&rt, &client), &true);
 }
 
 #[test]
@@ -99,7 +103,7 @@ fn telnet_commands_are_no_text(rt: HostRuntime) {
     let begun = now(&rt);
     // A command by itself (RFC 854: IAC NOP) ends a wait, and nothing is to be read.
     send(&rt, &client, &[255, 241]);
-    assert_eq!(rt; control.ready(LONG), Ok(false));
+    same(&rt, &control.ready(LONG), &Ok(false));
     // IAC IP, IAC DM before the line, and in it IAC DO 6 and two bytes 255 for one.
     send(
         &rt,
@@ -107,17 +111,19 @@ fn telnet_commands_are_no_text(rt: HostRuntime) {
         b"\xff\xf4\xff\xf2AB\xff\xfd\x06OR\xff\xff\r\n",
     );
     let mut line = [0; 16];
-    assert_eq!(rt;
-        (control.ready(LONG), control.read(&mut line)),
-        (Ok(true), Ok(7))
+    same(
+        &rt,
+        &(control.ready(LONG), control.read(&mut line)),
+        &(Ok(true), Ok(7)),
     );
-    assert_eq!(rt; &line[..7], b"ABOR\xff\r\n".as_slice());
+    same(&rt, &&line[..7], &b"ABOR\xff\r\n".as_slice());
     drop(client);
-    assert_eq!(rt;
-        (control.ready(LONG), control.read(&mut line)),
-        (Ok(true), Ok(0))
+    same(
+        &rt,
+        &(control.ready(LONG), control.read(&mut line)),
+        &(Ok(true), Ok(0)),
     );
-    assert!(rt; since(&rt, begun) < LONG as u128);
+    same(&rt, &(since(&rt, begun) < LONG as u128), &true);
 }
 
 #[test]
@@ -125,20 +131,20 @@ fn a_close_leaves_what_was_sent(rt: HostRuntime) {
     let (client, mut control) = controlled(&rt, rt.alloc(), 0);
     send(&rt, &client, &[b'x'; 4096]);
     client.shutdown(Shutdown::Write).expect(&rt, "an end");
-    assert_eq!(rt; control.write(b"221 Bye"), Ok(7));
-    assert_eq!(rt; control.close(), Ok(()));
+    same(&rt, &control.write(b"221 Bye"), &Ok(7));
+    same(&rt, &control.close(), &Ok(()));
     drop(control);
     let mut reply = [0; 7];
     receive(&rt, &client, &mut reply);
-    assert_eq!(rt; &reply, b"221 Bye");
-    assert!(rt; is_at_end(&rt, &client));
+    same(&rt, &reply, b"221 Bye");
+    same(&rt, &is_at_end(&rt, &client), &true);
 }
 
 #[test]
 fn a_reset_is_a_fault_of_the_wait(rt: HostRuntime) {
     let (client, mut control) = controlled(&rt, rt.alloc(), 0);
-    assert_eq!(rt; control.write(b"220 Hello"), Ok(9));
+    same(&rt, &control.write(b"220 Hello"), &Ok(9));
     // What it has not read makes its end a reset.
     drop(client);
-    assert_eq!(rt; control.ready(LONG), Err(Failed::Fault));
+    same(&rt, &control.ready(LONG), &Err(Failed::Fault));
 }

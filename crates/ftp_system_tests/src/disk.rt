@@ -1,10 +1,11 @@
 //! The storage and archive over a real directory, beside the one in memory.
 
 use crate::calls::{Call, Row, answer, archive_answer, call_of, compare, draw};
+use crate::same::same;
 use ftp_base::{Bytes, Looks, MemoryStorage, Storage};
 use ftp_disk::{Below, Budget, DiskStorage, Home, Homes, remove_leftovers, usage};
 use ftp_extras::Archive;
-use std::alloc::{AllocError, Global};
+use std::alloc::{AllocError, AllocGlobal, Global};
 use std::fs::{File, Files, Permissions};
 use std::os::unix::fs::{PermissionsExt, symlink};
 use std::process::Abort;
@@ -24,7 +25,12 @@ pub(crate) fn make_base(rt: &HostRuntime, test: &str) -> io::Result<String> {
     Ok(base)
 }
 
-pub(crate) fn below(rt: &impl Abort, alloc: Global, root: &str, path: &str) -> String {
+/// Removes a base with all that stands in it.
+pub(crate) fn remove<R: Files<File = File> + AllocGlobal + Abort>(rt: &R, base: &str) {
+    fs::remove_dir_all(rt, base).expect(rt, "an end");
+}
+
+fn below(rt: &impl Abort, alloc: Global, root: &str, path: &str) -> String {
     format!(in alloc; "{root}{path}").expect(rt, "a path")
 }
 
@@ -82,20 +88,36 @@ pub(crate) fn storage<R: Files<File = File> + Clock + Wait + Abort + Copy + Drop
     storage_within(rt, alloc, base, &Budget::none())
 }
 
-/// How many bytes a directory holds.
+/// How many bytes the home of a base holds.
 fn held<R: Files<File = File> + Clock + Abort + Copy + Drop>(
     rt: R,
     alloc: Global,
-    root: &str,
+    base: &str,
 ) -> u64 {
-    usage(&Below::new(rt), alloc, root).expect(&rt, "a count")
+    let root = below(&rt, alloc, base, "/home");
+    usage(&Below::new(rt), alloc, root.as_str()).expect(&rt, "a count")
+}
+
+/// A budget of so many bytes for the home of a base.
+fn budget_of<R: Files<File = File> + Clock + Abort + Copy + Drop>(
+    rt: R,
+    alloc: Global,
+    base: &str,
+    most: u64,
+) -> Budget {
+    Budget::new(alloc, most, held(rt, alloc, base)).expect(&rt, "a budget")
 }
 
 /// Whether the files in memory are on disk.
-fn is_same(rt: &HostRuntime, base: &str, memory: &MemoryStorage) -> io::Result<bool> {
+fn is_same<R: Files<File = File> + AllocGlobal>(
+    rt: &R,
+    alloc: Global,
+    base: &str,
+    memory: &MemoryStorage,
+) -> io::Result<bool> {
     for (path, bytes) in memory.files() {
-        let path = String::from_utf8_lossy(rt.alloc(), path)?;
-        let path = format!(in rt.alloc(); "{base}/home{path}")?;
+        let path = String::from_utf8_lossy(alloc, path)?;
+        let path = format!(in alloc; "{base}/home{path}")?;
         if fs::read(rt, path.as_str())?.as_slice() != bytes {
             return Ok(false);
         }
@@ -139,112 +161,166 @@ fn memory_storage(rt: &impl Abort, alloc: Global) -> MemoryStorage {
     memory
 }
 
+/// Compares the answers to a call, and the files behind it.
+fn compare_call<R: Files<File = File> + AllocGlobal + Abort, S: Storage + Archive>(
+    rt: &R,
+    alloc: Global,
+    base: &str,
+    memory: &mut MemoryStorage,
+    disk: &mut S,
+    is_archive: bool,
+    call: Call,
+) {
+    if !is_archive && lists_a_file(rt, memory, alloc, call) {
+        return;
+    }
+    let due = answer_as(rt, memory, alloc, is_archive, call);
+    let given = answer_as(rt, disk, alloc, is_archive, call);
+    let asked = (call.kind, call.path, call.other);
+    same(rt, &(asked, given.as_str()), &(asked, due.as_str()));
+    let is_same = is_same(rt, alloc, base, memory).expect(rt, "files");
+    same(rt, &is_same, &true);
+}
+
 #[test]
 fn a_directory_answers_as_a_storage_in_memory(rt: HostRuntime) {
-    let alloc = rt.alloc();
     for (test, is_archive, seed) in [("same", false, 7), ("archive", true, 11)] {
         let base = make_base(&rt, test).expect(&rt, "a base");
-        let mut disk = storage(rt, alloc, base.as_str());
-        let mut memory = memory_storage(&rt, alloc);
+        let mut disk = storage(rt, rt.alloc(), base.as_str());
+        let mut memory = memory_storage(&rt, rt.alloc());
         let mut state = seed;
         for _ in 0..400 {
             let call = draw(&mut state);
-            if !is_archive && lists_a_file(&rt, &mut memory, alloc, call) {
-                continue;
-            }
-            let due = answer_as(&rt, &mut memory, alloc, is_archive, call);
-            let given = answer_as(&rt, &mut disk, alloc, is_archive, call);
-            let same = is_same(&rt, base.as_str(), &memory).expect(&rt, "files");
-            assert!(rt;
-                given == due && same,
-                "{test} {} {} {}: {given} for {due}",
-                call.kind,
-                call.path,
-                call.other
+            compare_call(
+                &rt,
+                rt.alloc(),
+                base.as_str(),
+                &mut memory,
+                &mut disk,
+                is_archive,
+                call,
             );
         }
-        fs::remove_dir_all(&rt, base.as_str()).expect(&rt, "an end");
+        remove(&rt, base.as_str());
     }
+}
+
+/// Who calls, the kind, path and number of the call, and the answer that is due.
+type UserRow = (&'static str, u64, &'static str, u8, &'static str);
+
+/// Compares the answers of a storage to its users.
+fn compare_users<A: Abort, S: Storage>(rt: &A, alloc: Global, storage: &mut S, rows: &[UserRow]) {
+    for (user, kind, path, number, due) in rows {
+        let call = Call {
+            number: *number,
+            ..call_of(*kind, path)
+        };
+        let given = answer(rt, storage, alloc, user, call);
+        same(rt, &(*user, *path, given.as_str()), &(*user, *path, *due));
+    }
+}
+
+const DENIED: &str = "Err(Kind(PermissionDenied))";
+
+const LINKS_AND_STRANGERS: [UserRow; 11] = [
+    ("ann", 0, "/passwd", 0, DENIED),
+    ("ann", 3, "/passwd", 0, DENIED),
+    ("ann", 4, "/passwd", 0, DENIED),
+    ("ann", 1, "/d/etc", 0, DENIED),
+    ("ann", 0, "/d/etc/passwd", 0, DENIED),
+    (
+        "ann",
+        0,
+        "/../../etc/passwd",
+        0,
+        "Err(Kind(PermanentFileNotAvailable))",
+    ),
+    (
+        "ann",
+        1,
+        "/d/e/..//.",
+        0,
+        "Ok([FileInfo { name: Bytes { items: [101] }, meta: Meta { is_dir: true, len: 0 }, looks: None }])",
+    ),
+    ("bob", 3, "/b", 0, DENIED),
+    ("bob", 4, "/b", 0, DENIED),
+    (
+        "carl",
+        1,
+        "/",
+        0,
+        "Ok([FileInfo { name: Bytes { items: [100] }, meta: Meta { is_dir: true, len: 0 }, looks: None }])",
+    ),
+    ("eve", 1, "/", 0, DENIED),
+];
+
+/// A link in a base to what stands outside.
+fn link<R: Files<File = File> + Abort>(rt: &R, alloc: Global, base: &str, to: &str, path: &str) {
+    let path = below(rt, alloc, base, path);
+    symlink(rt, to, path.as_str()).expect(rt, "a link");
 }
 
 #[test]
 fn links_strangers_and_readers_are_refused(rt: HostRuntime) {
-    let alloc = rt.alloc();
     let base = make_base(&rt, "refused").expect(&rt, "a base");
-    for (to, link) in [("/etc/passwd", "/home/passwd"), ("/etc", "/home/d/etc")] {
-        let link = below(&rt, alloc, base.as_str(), link);
-        symlink(&rt, to, link.as_str()).expect(&rt, "a link");
-    }
-    let mut storage = storage(rt, alloc, base.as_str());
-    let denied = "Err(Kind(PermissionDenied))";
-    let missing = "Err(Kind(PermanentFileNotAvailable))";
-    let only_d =
-        "Ok([FileInfo { name: Bytes { items: [100] }, meta: Meta { is_dir: true, len: 0 }, looks: None }])";
-    let only_e =
-        "Ok([FileInfo { name: Bytes { items: [101] }, meta: Meta { is_dir: true, len: 0 }, looks: None }])";
-    for (user, kind, path, due) in [
-        ("ann", 0, "/passwd", denied),
-        ("ann", 3, "/passwd", denied),
-        ("ann", 4, "/passwd", denied),
-        ("ann", 1, "/d/etc", denied),
-        ("ann", 0, "/d/etc/passwd", denied),
-        ("ann", 0, "/../../etc/passwd", missing),
-        ("ann", 1, "/d/e/..//.", only_e),
-        ("bob", 3, "/b", denied),
-        ("bob", 4, "/b", denied),
-        ("carl", 1, "/", only_d),
-        ("eve", 1, "/", denied),
-    ] {
-        let given = answer(&rt, &mut storage, alloc, user, call_of(kind, path));
-        assert_eq!(rt; given.as_str(), due, "{user} {kind} {path}");
-    }
-    fs::remove_dir_all(&rt, base.as_str()).expect(&rt, "an end");
+    link(
+        &rt,
+        rt.alloc(),
+        base.as_str(),
+        "/etc/passwd",
+        "/home/passwd",
+    );
+    link(&rt, rt.alloc(), base.as_str(), "/etc", "/home/d/etc");
+    let mut storage = storage(rt, rt.alloc(), base.as_str());
+    compare_users(&rt, rt.alloc(), &mut storage, &LINKS_AND_STRANGERS);
+    remove(&rt, base.as_str());
 }
+
+const BUSY: &str = "Err(Kind(TransientFileNotAvailable))";
+
+const TWO_UPLOADS: [Row; 2] = [(true, 3, "/b", 0, "Ok(())"), (false, 3, "/b", 0, BUSY)];
+
+const ONE_UPLOAD: [UserRow; 1] = [("ann", 3, "/b", 0, "Ok(())")];
 
 #[test]
 fn a_path_has_one_upload_at_a_time(rt: HostRuntime) {
-    let alloc = rt.alloc();
     let base = make_base(&rt, "busy").expect(&rt, "a base");
-    let mut first = storage(rt, alloc, base.as_str());
-    let mut second = storage(rt, alloc, base.as_str());
-    let begun = answer(&rt, &mut first, alloc, "ann", call_of(3, "/b"));
-    let busy = answer(&rt, &mut second, alloc, "ann", call_of(3, "/b"));
+    let mut first = storage(rt, rt.alloc(), base.as_str());
+    let mut second = storage(rt, rt.alloc(), base.as_str());
+    compare(&rt, rt.alloc(), &mut first, &mut second, &TWO_UPLOADS);
     drop(first);
-    let free = answer(&rt, &mut second, alloc, "ann", call_of(3, "/b"));
-    assert_eq!(rt;
-        (begun.as_str(), busy.as_str(), free.as_str()),
-        ("Ok(())", "Err(Kind(TransientFileNotAvailable))", "Ok(())")
-    );
-    fs::remove_dir_all(&rt, base.as_str()).expect(&rt, "an end");
+    compare_users(&rt, rt.alloc(), &mut second, &ONE_UPLOAD);
+    remove(&rt, base.as_str());
 }
+
+const FULL: &str = "Err(Kind(ExceededStorageAllocationError))";
+
+/// Four of ten bytes are taken. Each call appends three, or cuts a file at a place or fills it up to there.
+const WITHIN_TEN: [Row; 11] = [
+    (true, 3, "/a", 0, "Ok(())"),
+    (false, 3, "/b", 0, "Ok(())"),
+    (true, 4, "/a", 1, "Ok(())"),
+    (false, 4, "/b", 2, "Ok(())"),
+    (true, 4, "/a", 3, FULL),
+    (false, 3, "/b", 4, FULL),
+    (false, 3, "/c", 1, FULL),
+    (false, 3, "/b", 1, "Ok(())"),
+    (true, 4, "/a", 4, FULL),
+    (true, 3, "/a", 1, "Ok(())"),
+    (true, 4, "/a", 5, "Ok(())"),
+];
 
 #[test]
 fn uploads_share_the_budget_of_a_home(rt: HostRuntime) {
     let alloc = rt.alloc();
     let base = make_base(&rt, "budget").expect(&rt, "a base");
-    let root = below(&rt, alloc, base.as_str(), "/home");
     write(&rt, alloc, base.as_str(), "/home/d/old", b"1234");
-    let budget = Budget::new(alloc, 10, held(rt, alloc, root.as_str())).expect(&rt, "a budget");
+    let budget = budget_of(rt, alloc, base.as_str(), 10);
     let mut first = storage_within(rt, alloc, base.as_str(), &budget);
     let mut second = storage_within(rt, alloc, base.as_str(), &budget);
-    let full = "Err(Kind(ExceededStorageAllocationError))";
-    // Four of the ten bytes are taken. Each call appends three, or cuts a file at a place or fills it up to there.
-    let rows: [Row; 11] = [
-        (true, 3, "/a", 0, "Ok(())"),
-        (false, 3, "/b", 0, "Ok(())"),
-        (true, 4, "/a", 1, "Ok(())"),
-        (false, 4, "/b", 2, "Ok(())"),
-        (true, 4, "/a", 3, full),
-        (false, 3, "/b", 4, full),
-        (false, 3, "/c", 1, full),
-        (false, 3, "/b", 1, "Ok(())"),
-        (true, 4, "/a", 4, full),
-        (true, 3, "/a", 1, "Ok(())"),
-        (true, 4, "/a", 5, "Ok(())"),
-    ];
-    compare(&rt, alloc, &mut first, &mut second, &rows);
-    assert_eq!(rt; held(rt, alloc, root.as_str()), 9);
-    fs::remove_dir_all(&rt, base.as_str()).expect(&rt, "an end");
+    compare(&rt, alloc, &mut first, &mut second, &WITHIN_TEN);
+    same(&rt, &held(rt, alloc, base.as_str()), &9);
+    remove(&rt, base.as_str());
 }
 
 /// How the first file of a directory looks.
@@ -270,102 +346,122 @@ fn make_looks(rt: &HostRuntime, path: &str, mode: u32, seconds: u32) -> io::Resu
     file.set_modified(UNIX_EPOCH + Duration::from_secs(u64::from(seconds)))
 }
 
+/// The 28th of November 2020, 13:57:09 UTC.
+const LOOKS: Looks = Looks {
+    mode: *b"rw-r-----",
+    shown: *b"Nov 28  2020",
+    modify: *b"20201128135709",
+};
+
 #[test]
 fn a_listing_shows_the_mode_and_the_date(rt: HostRuntime) {
-    let alloc = rt.alloc();
     let base = make_base(&rt, "looks").expect(&rt, "a base");
-    let path = below(&rt, alloc, base.as_str(), "/home/d/a");
-    // The 28th of November 2020, 13:57:09 UTC.
+    let path = below(&rt, rt.alloc(), base.as_str(), "/home/d/a");
     make_looks(&rt, path.as_str(), 0o640, 1_606_571_829).expect(&rt, "a file");
-    let looks = Looks {
-        mode: *b"rw-r-----",
-        shown: *b"Nov 28  2020",
-        modify: *b"20201128135709",
-    };
-    let mut storage = storage(rt, alloc, base.as_str());
-    assert_eq!(rt; looks_in(&rt, &mut storage, alloc, b"/d"), Some(looks));
-    fs::remove_dir_all(&rt, base.as_str()).expect(&rt, "an end");
+    let mut storage = storage(rt, rt.alloc(), base.as_str());
+    let looks = looks_in(&rt, &mut storage, rt.alloc(), b"/d");
+    same(&rt, &looks, &Some(LOOKS));
+    remove(&rt, base.as_str());
 }
+
+const REFUSED: &str = "Err(Kind(FileNameNotAllowedError))";
+
+const OF_TWO_LINES: [UserRow; 3] = [
+    (
+        "ann",
+        1,
+        "/d/e",
+        0,
+        "Ok([FileInfo { name: Bytes { items: [97, 98] }, meta: Meta { is_dir: false, len: 1 }, looks: None }])",
+    ),
+    ("ann", 0, "/d/e/a\nb", 0, REFUSED),
+    ("ann", 3, "/d/e/a\rb", 0, REFUSED),
+];
 
 #[test]
 fn a_name_of_two_lines_is_in_no_listing(rt: HostRuntime) {
-    let alloc = rt.alloc();
     let base = make_base(&rt, "lines").expect(&rt, "a base");
     for name in ["/home/d/e/a\nb", "/home/d/e/a\rb", "/home/d/e/ab"] {
-        write(&rt, alloc, base.as_str(), name, b"1");
+        write(&rt, rt.alloc(), base.as_str(), name, b"1");
     }
-    let mut storage = storage(rt, alloc, base.as_str());
-    let only_ab =
-        "Ok([FileInfo { name: Bytes { items: [97, 98] }, meta: Meta { is_dir: false, len: 1 }, looks: None }])";
-    let refused = "Err(Kind(FileNameNotAllowedError))";
-    for (kind, path, due) in [
-        (1, "/d/e", only_ab),
-        (0, "/d/e/a\nb", refused),
-        (3, "/d/e/a\rb", refused),
-    ] {
-        let given = answer(&rt, &mut storage, alloc, "ann", call_of(kind, path));
-        assert_eq!(rt; given.as_str(), due, "{kind} {path}");
-    }
-    fs::remove_dir_all(&rt, base.as_str()).expect(&rt, "an end");
+    let mut storage = storage(rt, rt.alloc(), base.as_str());
+    compare_users(&rt, rt.alloc(), &mut storage, &OF_TWO_LINES);
+    remove(&rt, base.as_str());
 }
 
-/// What a storage answers to an upload of three bytes to `/a`.
-fn upload<A: Abort, S: Storage>(rt: &A, storage: &mut S, alloc: Global, byte: u8) -> String {
-    let begun = answer(rt, storage, alloc, "ann", call_of(3, "/a"));
-    let call = Call {
-        number: byte,
-        ..call_of(4, "/a")
-    };
-    let grown = answer(rt, storage, alloc, "ann", call);
-    format!(in alloc; "{begun} {grown}").expect(rt, "a text")
+/// A storage of whole uploads over the homes of a base.
+fn whole_storage<R: Files<File = File> + Clock + Wait + Abort + Copy + Drop>(
+    rt: R,
+    alloc: Global,
+    base: &str,
+    budget: &Budget,
+) -> DiskStorage<R, Below<R>> {
+    storage_within(rt, alloc, base, budget).whole_uploads(true)
 }
 
-/// What a storage answers to the end of an upload to `/a`, and to three bytes behind it.
-fn settle<A: Abort, S: Storage>(rt: &A, storage: &mut S, alloc: Global) -> String {
-    let user = Bytes::from_slice(alloc, b"ann").expect(rt, "a name");
-    let path = Bytes::from_slice(alloc, b"/a").expect(rt, "a path");
-    let settled = storage.settle(&user, &path);
-    let grown = storage.append(&user, &path, b"zzz");
-    format!(in alloc; "{settled:?} {grown:?}").expect(rt, "a text")
+/// The file that stands at `/a`.
+fn stands<R: Files<File = File> + AllocGlobal + Abort>(
+    rt: &R,
+    alloc: Global,
+    base: &str,
+) -> Vec<u8> {
+    let path = below(rt, alloc, base, "/home/a");
+    fs::read(rt, path.as_str()).expect(rt, "a file")
 }
+
+const BEGUN: [Row; 4] = [
+    (true, 3, "/a", 0, "Ok(())"),
+    (true, 4, "/a", b'x', "Ok(())"),
+    (false, 3, "/a", 0, BUSY),
+    (false, 4, "/a", b'y', BUSY),
+];
+
+/// An upload, its end, and three bytes behind it.
+const ENDED: [UserRow; 4] = [
+    ("ann", 3, "/a", 0, "Ok(())"),
+    ("ann", 4, "/a", b'y', "Ok(())"),
+    ("ann", 6, "/a", 0, "Ok(())"),
+    ("ann", 4, "/a", b'a', "Ok(())"),
+];
 
 #[test]
 fn a_whole_upload_takes_its_place_at_its_end(rt: HostRuntime) {
     let alloc = rt.alloc();
     let base = make_base(&rt, "whole").expect(&rt, "a base");
-    let root = below(&rt, alloc, base.as_str(), "/home");
-    let file = below(&rt, alloc, root.as_str(), "/a");
-    write(&rt, alloc, root.as_str(), "/a", b"old");
+    write(&rt, alloc, base.as_str(), "/home/a", b"old");
     // It has room for two uploads of three, of which one takes the place of the other.
-    let budget = Budget::new(alloc, 8, held(rt, alloc, root.as_str())).expect(&rt, "a budget");
-    let mut first = storage_within(rt, alloc, base.as_str(), &budget).whole_uploads(true);
-    let mut second = storage_within(rt, alloc, base.as_str(), &budget).whole_uploads(true);
-    let busy = "Err(Kind(TransientFileNotAvailable)) Err(Kind(TransientFileNotAvailable))";
-    assert_eq!(rt;
-        upload(&rt, &mut first, alloc, b'x').as_str(),
-        "Ok(()) Ok(())"
+    let budget = budget_of(rt, alloc, base.as_str(), 8);
+    let mut first = whole_storage(rt, alloc, base.as_str(), &budget);
+    let mut second = whole_storage(rt, alloc, base.as_str(), &budget);
+    compare(&rt, alloc, &mut first, &mut second, &BEGUN);
+    same(
+        &rt,
+        &stands(&rt, alloc, base.as_str()).as_slice(),
+        &b"old".as_slice(),
     );
-    assert_eq!(rt; upload(&rt, &mut second, alloc, b'y').as_str(), busy);
-    let stands = fs::read(&rt, file.as_str()).expect(&rt, "a file");
-    assert_eq!(rt; stands.as_slice(), b"old".as_slice());
     drop(first);
-    assert_eq!(rt; held(rt, alloc, root.as_str()), 3);
-    assert_eq!(rt;
-        upload(&rt, &mut second, alloc, b'y').as_str(),
-        "Ok(()) Ok(())"
+    same(&rt, &held(rt, alloc, base.as_str()), &3);
+    compare_users(&rt, alloc, &mut second, &ENDED);
+    same(
+        &rt,
+        &stands(&rt, alloc, base.as_str()).as_slice(),
+        &b"yx{a`c".as_slice(),
     );
-    assert_eq!(rt; settle(&rt, &mut second, alloc).as_str(), "Ok(()) Ok(())");
-    let stands = fs::read(&rt, file.as_str()).expect(&rt, "a file");
-    assert_eq!(rt; stands.as_slice(), b"yx{zzz".as_slice());
-    fs::remove_dir_all(&rt, base.as_str()).expect(&rt, "an end");
+    remove(&rt, base.as_str());
 }
 
 /// Removes from the home of ann what killed uploads left there.
-fn clear<R: Files<File = File> + Clock + Abort + Copy + Drop>(rt: R, alloc: Global, homes: &Homes) {
+fn clear<R: Files<File = File> + Clock + Abort + Copy + Drop>(rt: R, alloc: Global, base: &str) {
+    let homes = homes_within(alloc, base, &Budget::none()).expect(&rt, "homes");
     let ann = Bytes::from_slice(alloc, b"ann").expect(&rt, "a name");
     let home = homes.find(&ann).ok().expect(&rt, "a home");
     remove_leftovers(&Below::new(rt), alloc, home).expect(&rt, "no leftovers");
 }
+
+const LEFT: [UserRow; 2] = [
+    ("ann", 1, "/d/e", 0, "Ok([])"),
+    ("ann", 0, "/d/e/.ftp-upload-a", 0, REFUSED),
+];
 
 #[test]
 fn what_a_killed_upload_left_is_hidden_and_removed(rt: HostRuntime) {
@@ -379,20 +475,9 @@ fn what_a_killed_upload_left_is_hidden_and_removed(rt: HostRuntime) {
         b"part",
     );
     let mut storage = storage(rt, alloc, base.as_str());
-    let shown = answer(&rt, &mut storage, alloc, "ann", call_of(1, "/d/e"));
-    let asked = answer(
-        &rt,
-        &mut storage,
-        alloc,
-        "ann",
-        call_of(0, "/d/e/.ftp-upload-a"),
-    );
-    assert_eq!(rt; shown.as_str(), "Ok([])");
-    assert_eq!(rt; asked.as_str(), "Err(Kind(FileNameNotAllowedError))");
-    let homes = homes_within(alloc, base.as_str(), &Budget::none()).expect(&rt, "homes");
-    let root = below(&rt, alloc, base.as_str(), "/home");
-    assert_eq!(rt; held(rt, alloc, root.as_str()), 4);
-    clear(rt, alloc, &homes);
-    assert_eq!(rt; held(rt, alloc, root.as_str()), 0);
-    fs::remove_dir_all(&rt, base.as_str()).expect(&rt, "an end");
+    compare_users(&rt, alloc, &mut storage, &LEFT);
+    same(&rt, &held(rt, alloc, base.as_str()), &4);
+    clear(rt, alloc, base.as_str());
+    same(&rt, &held(rt, alloc, base.as_str()), &0);
+    remove(&rt, base.as_str());
 }

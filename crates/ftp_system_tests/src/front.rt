@@ -1,40 +1,50 @@
 //! Where a server listens.
 
-use crate::loopback::{address, loopback, now};
-use ftp_system::{Doors, Front, SystemFront, told_address};
+use crate::loopback::{address, caller, loopback, now};
+use crate::same::same;
+use ftp_base::SocketAddr;
+use ftp_system::{Doors, Front, SystemFront, std_address, told_address};
 use mio::{Events, Poll, Token};
 use std::alloc::Global;
-use std::io;
-use std::net::{TcpListener, TcpStream};
+use std::net::{Net, TcpListener, TcpStream};
 use std::process::Abort;
 use std::time::Duration;
 
-/// Whether a listener takes in a connection, and tells from where it is.
-fn is_open(rt: &HostRuntime, listener: &TcpListener) -> io::Result<bool> {
-    let client = TcpStream::connect(rt, listener.local_addr()?)?;
-    let (_, from) = listener.accept()?;
-    Ok(told_address(from) == told_address(client.local_addr()?))
+/// A connection to a listener at this address, and its own address.
+fn client<N: Net<Listener = TcpListener, Stream = TcpStream> + Abort>(
+    rt: &N,
+    at: SocketAddr,
+) -> (TcpStream, SocketAddr) {
+    let client = TcpStream::connect(rt, std_address(at)).expect(rt, "a connection");
+    let own = client.local_addr().expect(rt, "an address");
+    (client, told_address(own))
+}
+
+/// Doors at an address, with passive ports or without; none where it is in use.
+fn doors<F: Front>(
+    rt: &impl Abort,
+    front: &mut F,
+    at: SocketAddr,
+    ports: Option<(u16, u16)>,
+) -> Option<Doors> {
+    front.open_doors(at, ports).expect(rt, "doors")
 }
 
 #[test]
 fn doors_are_open_until_they_are_dropped(rt: HostRuntime) {
     let mut front = SystemFront::new(rt, rt.alloc());
-    let doors = front
-        .open_doors(loopback(0), None)
-        .expect(&rt, "doors")
-        .expect(&rt, "doors");
-    let at = address(&rt, &doors.control);
-    assert!(rt; at.port > 0 && at.ip == loopback(0).ip);
-    assert!(rt; doors.ports.is_empty() && doors.poll.is_none());
-    assert!(rt; is_open(&rt, &doors.control).expect(&rt, "a connection"));
+    let open = doors(&rt, &mut front, loopback(0), None).expect(&rt, "doors");
+    let at = address(&rt, &open.control);
+    same(&rt, &(at.port > 0, at.ip), &(true, loopback(0).ip));
+    same(&rt, &(open.ports.is_empty() && open.poll.is_none()), &true);
+    let (_stream, own) = client(&rt, at);
+    let (_, from) = open.control.accept().expect(&rt, "a connection");
+    same(&rt, &told_address(from), &own);
     // An address in use is no door, neither for control connections nor for data connections.
-    assert!(rt; front.open_doors(at, None).expect(&rt, "doors").is_none());
-    assert!(rt;
-        front
-            .open_doors(loopback(0), Some((at.port, at.port)))
-            .expect(&rt, "doors")
-            .is_none()
-    );
+    let again = doors(&rt, &mut front, at, None);
+    same(&rt, &again.is_none(), &true);
+    let passive = doors(&rt, &mut front, loopback(0), Some((at.port, at.port)));
+    same(&rt, &passive.is_none(), &true);
 }
 
 /// The token of the event that comes first.
@@ -46,36 +56,30 @@ fn first_token(rt: &impl Abort, alloc: Global, poll: &mut Poll) -> Token {
     first.token()
 }
 
+/// A port that was free just now.
+fn free_port<N: Net<Listener = TcpListener, Stream = TcpStream> + Abort>(rt: &N) -> u16 {
+    let free = TcpListener::bind(rt, "127.0.0.1:0").expect(rt, "a listener");
+    address(rt, &free).port
+}
+
 #[test]
 fn passive_ports_tell_who_comes(rt: HostRuntime) {
     let mut front = SystemFront::new(rt, rt.alloc());
-    // A port that was free just now.
-    let free = TcpListener::bind(&rt, "127.0.0.1:0").expect(&rt, "a listener");
-    let port = address(&rt, &free).port;
-    drop(free);
-    let doors = front
-        .open_doors(loopback(0), Some((port, port)))
-        .expect(&rt, "doors")
-        .expect(&rt, "doors");
+    let port = free_port(&rt);
+    let doors = doors(&rt, &mut front, loopback(0), Some((port, port))).expect(&rt, "doors");
     let Doors {
         control: _,
         ports,
         poll,
     } = doors;
     let mut poll = poll.expect(&rt, "a poll");
-    assert_eq!(rt; ports.len(), 1);
-    let (bound, listener) = &ports[0];
-    assert_eq!(rt; *bound, port);
-    let client = TcpStream::connect(&rt, listener.local_addr().expect(&rt, "an address")).expect(
-        &rt,
-        "a connection",
-    );
-    assert_eq!(rt; first_token(&rt, rt.alloc(), &mut poll), Token(0));
-    let (_, from) = listener.accept().expect(&rt, "a connection");
-    assert_eq!(rt;
-        told_address(from),
-        told_address(client.local_addr().expect(&rt, "an address"))
-    );
+    let [(bound, listener)] = ports.as_slice() else {
+        panic!(rt; "one port");
+    };
+    same(&rt, bound, &port);
+    let (_stream, own) = client(&rt, loopback(port));
+    same(&rt, &first_token(&rt, rt.alloc(), &mut poll), &Token(0));
+    same(&rt, &caller(&rt, listener), &own);
 }
 
 #[test]
@@ -83,6 +87,6 @@ fn a_front_tells_the_time(rt: HostRuntime) {
     let mut front = SystemFront::new(rt, rt.alloc());
     let before = now(&rt);
     let at = front.now();
-    assert!(rt; before <= at as u128 && at as u128 <= now(&rt));
-    assert!(rt; at <= front.now());
+    let is_now = before <= at as u128 && at as u128 <= now(&rt);
+    same(&rt, &(is_now, at <= front.now()), &(true, true));
 }

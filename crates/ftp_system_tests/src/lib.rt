@@ -34,6 +34,8 @@ mod open;
 #[cfg(test)]
 mod queue;
 #[cfg(test)]
+mod same;
+#[cfg(test)]
 mod shared;
 #[cfg(test)]
 mod threads;

@@ -1,6 +1,7 @@
 //! Data connections over sockets.
 
 use crate::loopback::{is_at_end, pair, receive, send};
+use crate::same::same;
 use ftp_base::{Failed, Link, LinkFault, Source};
 use ftp_system::SocketLink;
 use mio::net::TcpStream;
@@ -28,15 +29,15 @@ fn bytes_go_both_ways_up_to_the_end(rt: HostRuntime) {
     let mut link = link(rt, rt.alloc(), server, 10_000).expect(&rt, "a link");
     let mut taken = [0; 4];
     send(&rt, &client, b"abcdef");
-    assert_eq!(rt; (link.read(&mut taken), &taken), (Ok(4), b"abcd"));
-    assert_eq!(rt; (link.read(&mut taken), &taken), (Ok(2), b"efcd"));
-    assert_eq!(rt; link.write(b"wxyz"), Ok(4));
+    same(&rt, &(link.read(&mut taken), &taken), &(Ok(4), b"abcd"));
+    same(&rt, &(link.read(&mut taken), &taken), &(Ok(2), b"efcd"));
+    same(&rt, &link.write(b"wxyz"), &Ok(4));
     receive(&rt, &client, &mut taken);
-    assert_eq!(rt; &taken, b"wxyz");
+    same(&rt, &taken, b"wxyz");
     client.shutdown(Shutdown::Write).expect(&rt, "an end");
-    assert_eq!(rt; link.read(&mut taken), Ok(0));
-    assert_eq!(rt; (link.close(), link.last_fault()), (Ok(()), None));
-    assert!(rt; is_at_end(&rt, &client));
+    same(&rt, &link.read(&mut taken), &Ok(0));
+    same(&rt, &(link.close(), link.last_fault()), &(Ok(()), None));
+    same(&rt, &is_at_end(&rt, &client), &true);
 }
 
 /// Sends bytes after so many milliseconds.
@@ -55,15 +56,15 @@ fn a_read_waits_for_what_comes(rt: HostRuntime) {
         || send_later(&rt, &client, b"late", 50),
         || link.read(&mut taken),
     );
-    assert_eq!(rt; (read, &taken), (Ok(4), b"late"));
+    same(&rt, &(read, &taken), &(Ok(4), b"late"));
 }
 
 #[test]
 fn a_wait_beyond_the_limit_is_a_fault(rt: HostRuntime) {
     let (client, server) = pair(&rt);
     let mut link = link(rt, rt.alloc(), server, 50).expect(&rt, "a link");
-    assert_eq!(rt; link.read(&mut [0; 4]), Err(Failed::Fault));
-    assert_eq!(rt; link.last_fault(), Some(LinkFault::Other));
+    same(&rt, &link.read(&mut [0; 4]), &Err(Failed::Fault));
+    same(&rt, &link.last_fault(), &Some(LinkFault::Other));
     drop(client);
 }
 
@@ -72,18 +73,18 @@ fn a_peer_that_resets_is_a_fault(rt: HostRuntime) {
     let (client, server) = pair(&rt);
     let mut link = link(rt, rt.alloc(), server, 10_000).expect(&rt, "a link");
     // A connection that is closed with bytes which were not read is reset.
-    assert_eq!(rt; link.write(b"x"), Ok(1));
+    same(&rt, &link.write(b"x"), &Ok(1));
     drop(client);
-    assert_eq!(rt; link.read(&mut [0; 4]), Err(Failed::Fault));
-    assert_eq!(rt; link.last_fault(), Some(LinkFault::Reset));
+    same(&rt, &link.read(&mut [0; 4]), &Err(Failed::Fault));
+    same(&rt, &link.last_fault(), &Some(LinkFault::Reset));
 }
 
 #[test]
 fn a_write_to_a_closed_connection_is_a_fault(rt: HostRuntime) {
     let (client, server) = pair(&rt);
     let mut link = link(rt, rt.alloc(), server, 10_000).expect(&rt, "a link");
-    assert_eq!(rt; link.close(), Ok(()));
-    assert_eq!(rt; link.write(b"x"), Err(Failed::Fault));
-    assert_eq!(rt; link.last_fault(), Some(LinkFault::BrokenPipe));
-    assert!(rt; is_at_end(&rt, &client));
+    same(&rt, &link.close(), &Ok(()));
+    same(&rt, &link.write(b"x"), &Err(Failed::Fault));
+    same(&rt, &link.last_fault(), &Some(LinkFault::BrokenPipe));
+    same(&rt, &is_at_end(&rt, &client), &true);
 }

@@ -24,6 +24,12 @@ pub fn address(rt: &impl Abort, listener: &TcpListener) -> SocketAddr {
     told_address(listener.local_addr().expect(rt, "an address"))
 }
 
+/// From where the next connection comes, which is closed then.
+pub fn caller(rt: &impl Abort, listener: &mio::net::TcpListener) -> SocketAddr {
+    let (_, from) = listener.accept().expect(rt, "a connection");
+    told_address(from)
+}
+
 /// Both ends of a connection: the client's, which waits for bytes a while, and the server's.
 pub fn pair<R: Net<Listener = TcpListener, Stream = TcpStream> + Abort>(
     rt: &R,

@@ -1,5 +1,6 @@
 //! Values for threads.
 
+use crate::same::same;
 use ftp_system::{PutError, Queue};
 use std::alloc::{AllocError, Global};
 use std::sync::Wait;
@@ -11,16 +12,20 @@ fn the_oldest_value_comes_first(rt: HostRuntime) {
     let queue = Queue::new(rt.alloc());
     // Nobody sleeps, so a thread is wanted for each.
     for value in [1, 2, 3] {
-        assert!(rt; matches!(queue.put(&rt, value), Ok(true)));
+        same(&rt, &matches!(queue.put(&rt, value), Ok(true)), &true);
     }
     for value in [1, 2] {
-        assert_eq!(rt; queue.take(&rt), Some(value));
+        same(&rt, &queue.take(&rt), &Some(value));
     }
     queue.close(&rt);
-    assert!(rt; matches!(queue.put(&rt, 4), Err(PutError::Closed(4))));
+    same(
+        &rt,
+        &matches!(queue.put(&rt, 4), Err(PutError::Closed(4))),
+        &true,
+    );
     // What was put before is taken all the same.
     for value in [Some(3), None] {
-        assert_eq!(rt; queue.take(&rt), value);
+        same(&rt, &queue.take(&rt), &value);
     }
 }
 
@@ -50,6 +55,11 @@ fn put_until_asleep<R: Wait + Clock>(rt: &R, queue: &Queue<u64>) -> Option<u64> 
     put
 }
 
+/// Says whether the values are those in a row, so many.
+fn is_row(values: &[u64], put: u64) -> bool {
+    (0..put).eq(values.iter().copied())
+}
+
 #[test]
 fn a_thread_that_sleeps_takes_the_next_value(rt: HostRuntime) {
     let queue = Queue::new(rt.alloc());
@@ -60,20 +70,17 @@ fn a_thread_that_sleeps_takes_the_next_value(rt: HostRuntime) {
         || put_until_asleep(&rt, &queue),
     );
     let put = put.expect(&rt, "nobody slept");
-    let mut wanted = Vec::new(alloc);
-    for value in 0..put {
-        wanted.push(value).expect(&rt, "room");
-    }
-    assert_eq!(rt; taken.expect(&rt, "values").as_slice(), wanted.as_slice());
+    let taken = taken.expect(&rt, "values");
+    same(&rt, &is_row(taken.as_slice(), put), &true);
 }
 
 #[test]
 fn a_thread_that_rests_too_long_ends(rt: HostRuntime) {
     let queue = Queue::new(rt.alloc());
-    assert!(rt; matches!(queue.put(&rt, 1), Ok(true)));
+    same(&rt, &matches!(queue.put(&rt, 1), Ok(true)), &true);
     for value in [Some(1), None] {
-        assert_eq!(rt; queue.take_or_rest(&rt, 10, 0), value);
+        same(&rt, &queue.take_or_rest(&rt, 10, 0), &value);
     }
     // It sleeps no more.
-    assert!(rt; matches!(queue.put(&rt, 2), Ok(true)));
+    same(&rt, &matches!(queue.put(&rt, 2), Ok(true)), &true);
 }

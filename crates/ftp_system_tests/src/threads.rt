@@ -1,5 +1,6 @@
 //! Threads of the system.
 
+use crate::same::same;
 use ftp_base::Spawner;
 use ftp_system::{Queue, SystemThreads, start};
 use std::sync::Arc;
@@ -30,9 +31,9 @@ fn work_is_done_by_a_thread_of_its_own(rt: HostRuntime) {
     let refused = start(&rt, &mut SystemThreads::new(), move || {
         let _ = theirs.put(&rt, 7u64);
     });
-    assert!(rt; refused.is_none());
+    same(&rt, &refused.is_none(), &true);
     // It comes from the other thread, for which this one waits.
-    assert_eq!(rt; queue.take(&rt), Some(7));
+    same(&rt, &queue.take(&rt), &Some(7));
 }
 
 #[test]
@@ -45,5 +46,5 @@ fn work_that_no_thread_takes_comes_back(rt: HostRuntime) {
     });
     let work = refused.expect(&rt, "the work is gone");
     work();
-    assert_eq!(rt; (queue.take(&rt), none.faults), (Some(7), 1));
+    same(&rt, &(queue.take(&rt), none.faults), &(Some(7), 1));
 }
