@@ -1,5 +1,6 @@
 //! What a user moved, in stretches of a log, and who moved most.
 
+use crate::same::same;
 use crate::values::{ANN, log_of, pooled};
 use ftp_audit::{Audit, Total, audited};
 use ftp_base::Bytes;
@@ -27,25 +28,36 @@ fn audit(rt: &impl Abort, alloc: Global) -> Audit {
     audited(alloc, &log).ok().expect(rt, "an audit")
 }
 
+/// A stretch, and the logins, the files and bytes that were got, and the files that were put in it.
+type Stretch = (u64, u64, u64, u64, u128, u64);
+
+/// The login is entry 3, and the ends of the transfers are the entries 11 and 15.
+const STRETCHES: [Stretch; 4] = [
+    (0, 16, 1, 1, 5, 1),
+    (8, 12, 0, 1, 5, 0),
+    (12, 16, 0, 0, 0, 1),
+    (8, 11, 0, 0, 0, 0),
+];
+
+/// Says whether Ann did so much in a stretch, and nothing else.
+fn has_total(audit: &Audit, ann: &Bytes, row: &Stretch) -> bool {
+    let (from, to, logins, got_files, got_bytes, put_files) = *row;
+    let told = Total {
+        got_files,
+        got_bytes,
+        put_files,
+        logins,
+        ..Total::new()
+    };
+    audit.between(ann, from, to) == told
+}
+
 #[test]
 fn a_stretch_has_what_its_entries_told(rt: HostRuntime) {
     let ann = Bytes::from_slice(rt.alloc(), b"ann").expect(&rt, "a name");
     let audit = audit(&rt, rt.alloc());
-    // The login is entry 3, and the ends of the transfers are the entries 11 and 15.
-    for (from, to, logins, got_files, got_bytes, put_files) in [
-        (0, 16, 1, 1, 5, 1),
-        (8, 12, 0, 1, 5, 0),
-        (12, 16, 0, 0, 0, 1),
-        (8, 11, 0, 0, 0, 0),
-    ] {
-        let told = Total {
-            got_files,
-            got_bytes,
-            put_files,
-            logins,
-            ..Total::new()
-        };
-        assert!(rt; audit.between(&ann, from, to) == told);
+    for row in &STRETCHES {
+        same(&rt, &(row.0, has_total(&audit, &ann, row)), &(row.0, true));
     }
 }
 
@@ -53,5 +65,8 @@ fn a_stretch_has_what_its_entries_told(rt: HostRuntime) {
 fn who_moved_most_comes_first(rt: HostRuntime) {
     let audit = audit(&rt, rt.alloc());
     let top = audit.top(1).expect(&rt, "a list");
-    assert!(rt; matches!(top.as_slice(), [(name, _)] if name.as_slice() == b"ann".as_slice()));
+    let [(name, _)] = top.as_slice() else {
+        panic!(rt; "one user");
+    };
+    same(&rt, &name.as_slice(), &b"ann".as_slice());
 }

@@ -1,6 +1,7 @@
 //! A caller that has an audit hear what happens on a hub.
 
-use crate::values::{event, pooled};
+use crate::same::same;
+use crate::values::{pooled, step};
 use ftp_audit::Audit;
 use ftp_events::Answer;
 use ftp_hub::Hub;
@@ -23,9 +24,7 @@ const VISITS: [&[u8]; 10] = [
 
 /// The line of a script happens on the hub, and the audit hears of it.
 fn hear(rt: &impl Abort, alloc: Global, hub: &mut Hub, audit: &mut Audit, line: &[u8]) {
-    let event = event(rt, alloc, line);
-    let room = hub.prepare(&event).ok().expect(rt, "room");
-    let entry = hub.step(room, event, Answer::None);
+    let entry = step(rt, alloc, hub, line, Answer::None);
     audit.take(&entry).ok().expect(rt, "an entry that fits");
 }
 
@@ -38,8 +37,9 @@ fn an_audit_hears_what_happens_on_a_hub(rt: HostRuntime) {
         hear(&rt, alloc, &mut hub, &mut audit, line);
     }
     let report = audit.report().expect(&rt, "a report");
-    assert_eq!(rt;
-        report.as_slice(),
-        b"got 0 0 put 0 0 in 2 out 2 ann\n".as_slice()
+    same(
+        &rt,
+        &report.as_slice(),
+        &b"got 0 0 put 0 0 in 2 out 2 ann\n".as_slice(),
     );
 }

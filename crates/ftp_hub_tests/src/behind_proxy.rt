@@ -1,6 +1,7 @@
 //! A hub behind a proxy, by a header that was read elsewhere.
 
-use crate::values::event;
+use crate::same::same;
+use crate::values::step;
 use ftp_base::MemoryLink;
 use ftp_events::{Answer, Decision};
 use ftp_hub::Hub;
@@ -29,9 +30,7 @@ fn header(rt: &impl Abort, alloc: Global) -> ProxyHeader {
 
 /// What is decided on the first connection of the proxy.
 fn decided(rt: &impl Abort, alloc: Global, hub: &mut Hub, answer: Answer) -> Decision {
-    let event = event(rt, alloc, b"0 proxied 1 10.9.9.9:1 1");
-    let room = hub.prepare(&event).ok().expect(rt, "room");
-    hub.step(room, event, answer).decision
+    step(rt, alloc, hub, b"0 proxied 1 10.9.9.9:1 1", answer).decision
 }
 
 #[test]
@@ -41,5 +40,9 @@ fn a_connection_of_the_proxy_needs_its_header(rt: HostRuntime) {
     let early = decided(&rt, alloc, &mut hub, Answer::None);
     let header = Answer::Header(Ok(header(&rt, alloc)));
     let late = decided(&rt, alloc, &mut hub, header);
-    assert_eq!(rt; (early, late), (Decision::NotExpected, Decision::Opened));
+    same(
+        &rt,
+        &(early, late),
+        &(Decision::NotExpected, Decision::Opened),
+    );
 }

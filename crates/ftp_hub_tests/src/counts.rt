@@ -1,12 +1,13 @@
 //! What a hub counts, and what listeners hear.
 
+use crate::same::{holds, same};
 use crate::values::{ANN, events, links, log_of, pooled, storage};
 use ftp_base::{
     Bytes, DataChanCmd, DataEvent, DataListener, EventMeta, PresenceEvent, PresenceListener,
 };
 use ftp_events::{Counters, Log, Status7, deliver};
 use ftp_hub::{Hub, covers, run_events};
-use std::alloc::Global;
+use std::alloc::{AllocError, Global};
 use std::process::Abort;
 
 /// A login, and the download of a file.
@@ -26,33 +27,33 @@ fn download(rt: &impl Abort, alloc: Global, hub: &mut Hub) {
     let mut storage = storage(alloc).ok().expect(rt, "a storage");
     let mut links = links(rt, alloc);
     let mut log = Log::new(alloc);
-    assert!(rt; covers(&links, &events));
+    holds(rt, covers(&links, &events));
     let run = run_events(hub, &mut storage, &mut links, &events, &mut log);
-    assert!(rt; run.is_ok());
+    same(rt, &run.is_ok(), &true);
 }
 
-/// The sessions that are live and that there were, the files and bytes that were read, the bytes and transfers of such downloads, and
-/// the replies that begin with 2.
-fn counted(counters: &Counters, retr: &DataChanCmd) -> [u64; 7] {
-    [
+/// The sessions that are live and that there were, the files and bytes that were read, the bytes and transfers of downloads of `a`,
+/// and the replies that begin with 2.
+fn counted(alloc: Global, counters: &Counters) -> Result<[u64; 7], AllocError> {
+    let path = Bytes::from_slice(alloc, b"a")?;
+    let retr = DataChanCmd::Retr { path };
+    Ok([
         counters.session(),
         counters.sessions_count(),
         counters.read_files(),
         counters.read_bytes(),
-        counters.sent_bytes(retr),
-        counters.transferred(retr, Status7::Success),
+        counters.sent_bytes(&retr),
+        counters.transferred(&retr, Status7::Success),
         counters.replies(2),
-    ]
+    ])
 }
 
 #[test]
 fn a_hub_counts_what_its_entries_tell(rt: HostRuntime) {
-    let alloc = rt.alloc();
-    let path = Bytes::from_slice(alloc, b"a").expect(&rt, "a path");
-    let retr = DataChanCmd::Retr { path };
-    let mut hub = Hub::new(alloc, pooled(&rt, alloc));
-    download(&rt, alloc, &mut hub);
-    assert_eq!(rt; counted(hub.counters(), &retr), [1, 1, 1, 5, 5, 1, 3]);
+    let mut hub = Hub::new(rt.alloc(), pooled(&rt, rt.alloc()));
+    download(&rt, rt.alloc(), &mut hub);
+    let counted = counted(rt.alloc(), hub.counters());
+    same(&rt, &counted, &Ok([1, 1, 1, 5, 5, 1, 3]));
 }
 
 /// Notes the numbers of the notifications that it is told.
@@ -88,10 +89,8 @@ impl PresenceListener for Noted {
     }
 }
 
-#[test]
-fn each_listener_hears_what_is_for_it(rt: HostRuntime) {
-    let alloc = rt.alloc();
-    let log = log_of(&rt, alloc, pooled(&rt, alloc), DOWNLOAD);
+/// What a listener for data and one for presence note of a log.
+fn noted(alloc: Global, log: &Log) -> (Vec<u64>, Vec<u64>) {
     let mut files = Noted {
         numbers: Vec::new(alloc),
     };
@@ -101,6 +100,13 @@ fn each_listener_hears_what_is_for_it(rt: HostRuntime) {
     for entry in log.as_slice() {
         deliver(entry, &mut files, &mut users);
     }
-    assert_eq!(rt; users.numbers.as_slice(), [1].as_slice());
-    assert_eq!(rt; files.numbers.as_slice(), [2].as_slice());
+    (files.numbers, users.numbers)
+}
+
+#[test]
+fn each_listener_hears_what_is_for_it(rt: HostRuntime) {
+    let log = log_of(&rt, rt.alloc(), pooled(&rt, rt.alloc()), DOWNLOAD);
+    let (files, users) = noted(rt.alloc(), &log);
+    let due = ([2].as_slice(), [1].as_slice());
+    same(&rt, &(files.as_slice(), users.as_slice()), &due);
 }

@@ -2,6 +2,7 @@
 
 ghost use Rattle.ftp_events.specs.Right.{IsRight};
 
+use crate::same::{holds, same};
 use crate::values::{ANN, log_of, pooled};
 use ftp_check_log::{put_evidence, why};
 use ftp_events::Log;
@@ -40,37 +41,42 @@ const COMING_AND_GOING: &[&[u8]] = &[
 fn told(rt: &impl Abort, alloc: Global, options: &Options, log: &Log, k: u64) -> Vec<u8>
     requires right { IsRight options.now log.now.entries }
 {
-    assert!(rt; k < log.len());
+    holds(rt, k < log.len());
     let evidence = why(alloc, options, log, k).ok().expect(rt, "evidence");
     let mut text = Vec::new(alloc);
     put_evidence(&mut text, &evidence).expect(rt, "a text");
     text
 }
 
+/// The place of an entry, and its printed evidence.
+type Row = (u64, &'static [u8]);
+
 /// Compares the printed evidence for entries of the log of a login and of these lines.
-fn compare(rt: &impl Abort, alloc: Global, lines: &[&[u8]], rows: &[(u64, &[u8])]) {
+fn compare(rt: &impl Abort, alloc: Global, lines: &[&[u8]], rows: &[Row]) {
     let options = pooled(rt, alloc);
     let copy = options.copy(alloc).expect(rt, "options");
     let log = log_of(rt, alloc, copy, &[ANN, lines]);
     for (k, text) in rows {
-        assert_eq!(rt; told(rt, alloc, &options, &log, *k).as_slice(), *text);
+        same(rt, &told(rt, alloc, &options, &log, *k).as_slice(), text);
     }
 }
 
+const OF_GRANTS: [Row; 2] = [(13, b"plain"), (14, b"full 12 13")];
+
 #[test]
 fn a_full_range_names_the_grant_of_each_port(rt: HostRuntime) {
-    let rows: [(u64, &[u8]); 2] = [(13, b"plain"), (14, b"full 12 13")];
-    compare(&rt, rt.alloc(), FULL, rows.as_slice());
+    compare(&rt, rt.alloc(), FULL, &OF_GRANTS);
 }
+
+const OF_CONNECTIONS: [Row; 5] = [
+    (4, b"plain"),
+    (5, b"free -"),
+    (6, b"held 4"),
+    (7, b"free 6"),
+    (10, b"free 9"),
+];
 
 #[test]
 fn a_connection_names_the_grant_or_the_release_of_its_port(rt: HostRuntime) {
-    let rows: [(u64, &[u8]); 5] = [
-        (4, b"plain"),
-        (5, b"free -"),
-        (6, b"held 4"),
-        (7, b"free 6"),
-        (10, b"free 9"),
-    ];
-    compare(&rt, rt.alloc(), COMING_AND_GOING, rows.as_slice());
+    compare(&rt, rt.alloc(), COMING_AND_GOING, &OF_CONNECTIONS);
 }

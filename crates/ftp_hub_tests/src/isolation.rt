@@ -1,5 +1,6 @@
 //! The part of a log that belongs to one client, run with nobody else there.
 
+use crate::same::same;
 use crate::values::{ANN, decisions_of, log_of, pooled};
 use ftp_events::{Decision, Log, replies_of};
 use ftp_hub::isolation;
@@ -34,22 +35,24 @@ fn sent(alloc: Global, log: &Log) -> Result<Vec<u8>, AllocError> {
     Ok(sent)
 }
 
+/// A connection, a login, a port and the data connection that comes to it.
+const DECISIONS: [Decision; 6] = [
+    Decision::Opened,
+    Decision::NeedPass,
+    Decision::PassOut,
+    Decision::LoggedIn,
+    Decision::Granted { port: 50000 },
+    Decision::Attached { session: 1 },
+];
+
 #[test]
 fn a_client_is_served_as_with_nobody_else_there(rt: HostRuntime) {
     let alone = alone(&rt, rt.alloc());
-    let decisions = [
-        Decision::Opened,
-        Decision::NeedPass,
-        Decision::PassOut,
-        Decision::LoggedIn,
-        Decision::Granted { port: 50000 },
-        Decision::Attached { session: 1 },
-    ];
     let found = decisions_of(rt.alloc(), &alone).expect(&rt, "decisions");
-    assert_eq!(rt; found.as_slice(), decisions.as_slice());
+    same(&rt, &found.as_slice(), &DECISIONS.as_slice());
     // A name, a password and a PASV have their replies (RFC 959, sections 4.1.2 and 5.4).
     let replies = b"331 Password Required\r\n230 User logged in, proceed\r\n\
                     227 Entering Passive Mode (10,0,0,9,195,80)\r\n";
     let sent = sent(rt.alloc(), &alone).expect(&rt, "replies");
-    assert_eq!(rt; sent.as_slice(), replies.as_slice());
+    same(&rt, &sent.as_slice(), &replies.as_slice());
 }

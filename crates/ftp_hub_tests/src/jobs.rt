@@ -4,6 +4,7 @@ ghost use Rattle.std.specs.Prelude.{◌≡◌, false};
 ghost use Rattle.ftp_shared.specs.Outbox.{has_ticket};
 
 use crate::hubs::share;
+use crate::same::{holds, same};
 use crate::shared_values::{connect, sent_at_once};
 use ftp_base::{AuthAnswer, Bytes, DataChanCmd, IpAddr, SocketAddr};
 use ftp_events::{Answer, EventKind, HubEvent, Log};
@@ -102,7 +103,7 @@ pub fn finish<L: Serving, R: Wait + Abort>(
         bytes,
         fault: None,
     };
-    assert!(rt; job.can_end(&outcome));
+    holds(rt, job.can_end(&outcome));
     hub.finish(rt, share, job, 0, outcome)
         .ok()
         .expect(rt, "the end of a job")
@@ -133,11 +134,12 @@ pub fn take_a_file<L: Serving, R: Wait + Abort>(
     } else {
         (Some(1), b"226 Successfully sent\r\n".as_slice())
     };
-    assert_eq!(rt;
-        (drained_early, woken, hub.drained(rt)),
-        (false, to_wake, true)
+    same(
+        rt,
+        &(drained_early, woken, hub.drained(rt)),
+        &(false, to_wake, true),
     );
     let sent = sent_at_once(alloc, &earlier).expect(rt, "a text");
-    assert_eq!(rt; sent.as_slice(), handed);
+    same(rt, &sent.as_slice(), &handed);
     hub.settle(vec![in alloc; share].expect(rt, "shares"), &[])
 }

@@ -44,6 +44,8 @@ mod pieces;
 #[cfg(test)]
 mod replays;
 #[cfg(test)]
+mod same;
+#[cfg(test)]
 mod server_log;
 #[cfg(test)]
 mod settled;

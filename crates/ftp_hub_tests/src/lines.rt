@@ -2,6 +2,7 @@
 
 ghost use Rattle.std.specs.Prelude.{◌≤◌};
 
+use crate::same::same;
 use crate::talk::{FileWords, talk};
 use ftp_base::MemoryLink;
 use ftp_talk::ServeEnd;
@@ -10,29 +11,29 @@ use std::process::Abort;
 
 const GREETING: &[u8] = b"220 Welcome to the libunftp FTP server\r\n";
 
-/// Lines of a client, what it is sent behind the greeting, and the path of the transfer that starts.
-type Row<'a> = (&'a [u8], &'a [u8], Option<&'a [u8]>);
+/// Lines of a client, what it is sent behind the greeting, and the path of the transfer that starts, if one does.
+type Row<'a> = (&'a [u8], &'a [u8], &'a [u8]);
 
 const ROWS: [Row<'static>; 10] = [
     (
         b"user ann\r\npAsS x\r\npasv\r\nquit\r\n",
         b"331 Password Required\r\n230 User logged in, proceed\r\n\
           227 Entering Passive Mode (10,0,0,9,195,80)\r\n221 Bye!\r\n",
-        None,
+        b"",
     ),
     // Of the line end the line feed is enough, and a rest without one is no line.
     (
         b"USER ann\nPASS y\nUSER ann\nPASS x\nQUIT",
         b"331 Password Required\r\n530 Authentication failed\r\n\
           331 Password Required\r\n230 User logged in, proceed\r\n",
-        None,
+        b"",
     ),
     (
         b"NOOP\r\nTYPE I\r\nSYST\r\nREST 1303 343\r\nPASV\r\nPASS\r\nQUIT x\r\nBYE\r\n",
         b"200 Successfully did nothing\r\n200 Always in binary mode\r\n500 Command not implemented\r\n\
           501 Invalid Parameter\r\n530 Please authenticate\r\n503 Please supply a username first\r\n\
           501 Invalid Parameter\r\n221 Bye!\r\n",
-        None,
+        b"",
     ),
     // A carriage return goes as CR NUL.
     (
@@ -40,39 +41,39 @@ const ROWS: [Row<'static>; 10] = [
         b"331 Password Required\r\n230 User logged in, proceed\r\n\
           250 Successfully changed working directory\r\n250 Successfully changed working directory\r\n\
           550 Directory not found\r\n",
-        None,
+        b"",
     ),
     (
         b"USER ann\r\nPASS x\r\nLIST -la --\r\nPORT 10,0,0,2,117,48\r\nPORT 10,0,0,1,117\r\n",
         b"331 Password Required\r\n230 User logged in, proceed\r\n425 No data connection established\r\n\
           425 Could not establish data connection\r\n501 Invalid address format\r\n",
-        None,
+        b"",
     ),
     (
         b"USER ann\r\nPASS x\r\nPORT 10,0,0,1,117,48\r\nLIST -la -- folder with space\r\n",
         b"331 Password Required\r\n230 User logged in, proceed\r\n200 PORT command successful\r\n\
           150 Sending directory list\r\n",
-        Some(b"/folder with space"),
+        b"/folder with space",
     ),
     (
         b"USER ann\r\nPASS x\r\nCWD up\r\nPORT 10,0,0,1,117,48\r\nLIST -la --\r\n",
         b"331 Password Required\r\n230 User logged in, proceed\r\n\
           250 Successfully changed working directory\r\n200 PORT command successful\r\n\
           150 Sending directory list\r\n",
-        Some(b"/up"),
+        b"/up",
     ),
     (
         b"USER ann\r\nPASS x\r\nPORT 10,0,0,1,117,48\r\nLIST -a  -b\r\n",
         b"331 Password Required\r\n230 User logged in, proceed\r\n200 PORT command successful\r\n\
           150 Sending directory list\r\n",
-        Some(b"/ -b"),
+        b"/ -b",
     ),
     (
         b"NOOP \xff\r\nNOOP\r\n",
         b"500 Invalid UTF8 in command\r\n",
-        None,
+        b"",
     ),
-    (b"USER Dolores\r", b"", None),
+    (b"USER Dolores\r", b"", b""),
 ];
 
 /// Compares a row with its talk, which comes, as the replies go, in pieces of so many bytes.
@@ -83,10 +84,10 @@ pub fn compare(rt: &impl Abort, alloc: Global, row: Row<'_>, chunk: u32, words: 
     let lines = Vec::from_slice(alloc, lines).expect(rt, "lines");
     let mut link = MemoryLink::new(alloc, lines, chunk, Vec::new(alloc));
     let talked = talk(rt, alloc, &mut link, words);
-    assert_eq!(rt; talked.end, ServeEnd::Ended);
-    assert_eq!(rt; link.sent().strip_prefix(GREETING), Some(replies));
     let started = talked.path(alloc).expect(rt, "a path");
-    assert_eq!(rt; started.as_ref().map(|path| path.as_slice()), path);
+    let found = (link.sent().strip_prefix(GREETING), started.as_slice());
+    same(rt, &found, &(Some(replies), path));
+    same(rt, &talked.end, &ServeEnd::Ended);
 }
 
 /// Compares a row with its talk, in one packet and byte by byte.
@@ -122,8 +123,8 @@ fn a_client_logs_in_asks_for_a_port_and_quits(rt: HostRuntime) {
 
 #[test]
 fn lines_are_answered_in_their_order_whatever_their_pieces(rt: HostRuntime) {
-    for row in ROWS {
-        compare_both(&rt, rt.alloc(), row);
+    for row in &ROWS {
+        compare_both(&rt, rt.alloc(), *row);
     }
 }
 
@@ -147,21 +148,23 @@ fn with_long_word(alloc: Global, front: &[u8], letters: usize) -> Result<Vec<u8>
     Ok(lines)
 }
 
+/// A buffer has room for 512 bytes at first. The short line has six bytes, and the line end has two.
+const LENGTHS: [(&[u8], usize, &[u8]); 9] = [
+    (SHORT, 503, BETWEEN),
+    (SHORT, 504, BETWEEN),
+    (SHORT, 505, BETWEEN),
+    (SHORT, 509, BETWEEN),
+    (SHORT, 510, BETWEEN),
+    (SHORT, 511, BETWEEN),
+    (SHORT, 8190, BETWEEN),
+    (b"", 8190, BEFORE),
+    (b"", 8191, CLOSED),
+];
+
 #[test]
 fn a_line_has_at_most_8192_bytes_also_behind_a_short_one(rt: HostRuntime) {
-    // A buffer has room for 512 bytes at first. The short line has six bytes, and the line end has two.
-    for (front, letters, replies) in [
-        (SHORT, 503, BETWEEN),
-        (SHORT, 504, BETWEEN),
-        (SHORT, 505, BETWEEN),
-        (SHORT, 509, BETWEEN),
-        (SHORT, 510, BETWEEN),
-        (SHORT, 511, BETWEEN),
-        (SHORT, 8190, BETWEEN),
-        (b"", 8190, BEFORE),
-        (b"", 8191, CLOSED),
-    ] {
-        let lines = with_long_word(rt.alloc(), front, letters).expect(&rt, "lines");
-        compare_both(&rt, rt.alloc(), (lines.as_slice(), replies, None));
+    for (front, letters, replies) in &LENGTHS {
+        let lines = with_long_word(rt.alloc(), front, *letters).expect(&rt, "lines");
+        compare_both(&rt, rt.alloc(), (lines.as_slice(), replies, b""));
     }
 }

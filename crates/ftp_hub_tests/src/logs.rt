@@ -1,5 +1,6 @@
 //! Who holds a port by a log.
 
+use crate::same::same;
 use crate::values::{ANN, log_of, pooled};
 use ftp_events::holder_of;
 use std::alloc::Global;
@@ -26,15 +27,20 @@ fn holder(
     holder_of(&pooled(rt, alloc), &log, client, port)
 }
 
+const BEFORE: &[&[&[u8]]] = &[ANN, GRANTED];
+
+/// What has happened, a client's address and a port, and the session that holds it.
+const ROWS: [(&[&[&[u8]]], u32, u16, Option<u64>); 4] = [
+    (BEFORE, CLIENT, 50001, Some(1)),
+    (BEFORE, CLIENT, 50000, None),
+    (BEFORE, CLIENT + 1, 50001, None),
+    (&[ANN, GRANTED, LEFT], CLIENT, 50001, None),
+];
+
 #[test]
 fn a_log_tells_who_holds_a_port(rt: HostRuntime) {
-    let granted = [ANN, GRANTED].as_slice();
-    for (scripts, client, port, session) in [
-        (granted, CLIENT, 50001, Some(1)),
-        (granted, CLIENT, 50000, None),
-        (granted, CLIENT + 1, 50001, None),
-        (&[ANN, GRANTED, LEFT], CLIENT, 50001, None),
-    ] {
-        assert_eq!(rt; holder(&rt, rt.alloc(), scripts, client, port), session);
+    for (scripts, client, port, session) in &ROWS {
+        let found = holder(&rt, rt.alloc(), scripts, *client, *port);
+        same(&rt, &found, session);
     }
 }

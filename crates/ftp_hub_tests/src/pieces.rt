@@ -2,6 +2,7 @@
 
 use crate::hubs::share;
 use crate::jobs::{act, finish, start};
+use crate::same::{holds, same};
 use ftp_events::{Action, Decision, EventKind, Log};
 use ftp_shared::{JobShare, JournalHub, Serving, SettleError, SharedHub, StepShare, Submitted};
 use ftp_transfer::Ticket;
@@ -24,7 +25,7 @@ fn move_on<L: Serving, R: Wait + Abort>(
 ) -> Option<JobShare> {
     let mut job = job;
     for _ in 0..most {
-        assert!(rt; job.can_move(1));
+        holds(rt, job.can_move(1));
         let Submitted {
             receipt: _,
             job: back,
@@ -47,7 +48,7 @@ fn move_until_stopped<L: Serving, R: Wait + Abort>(
 ) -> StepShare<L> {
     let mut share = share;
     let rest = move_on(rt, hub, &mut share, job, u64::MAX);
-    assert!(rt; rest.is_none());
+    same(rt, &rest.is_none(), &true);
     share
 }
 

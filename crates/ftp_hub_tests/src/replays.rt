@@ -1,6 +1,7 @@
 //! Calls of users that are replayed.
 
 use crate::budgets::usage_after;
+use crate::same::same;
 use ftp_audit::{Quota, QuotaCall, Verdict, replay};
 use ftp_base::{Bytes, ErrorKind, MemoryStorage};
 use std::alloc::{AllocError, Global};
@@ -32,32 +33,38 @@ fn uploads(alloc: Global) -> Result<Vec<QuotaCall>, AllocError> {
     Ok(calls)
 }
 
+/// What the calls come to, where Ann may store ten bytes.
+fn verdicts(alloc: Global) -> Result<Vec<Verdict>, AllocError> {
+    let calls = uploads(alloc)?;
+    let mut quota = Quota::new(alloc, MemoryStorage::new(alloc, 64, Vec::new(alloc)), 64);
+    quota.budget(Bytes::from_slice(alloc, b"ann")?, 10)?;
+    replay(alloc, &mut quota, calls.as_slice())
+}
+
+const VERDICTS: [Verdict; 5] = [
+    Verdict::Done,
+    Verdict::Done,
+    Verdict::Done,
+    Verdict::Refused(ErrorKind::ExceededStorageAllocationError),
+    Verdict::Refused(ErrorKind::PermissionDenied),
+];
+
 #[test]
 fn each_call_has_its_verdict(rt: HostRuntime) {
-    let alloc = rt.alloc();
-    let ann = Bytes::from_slice(alloc, b"ann").expect(&rt, "a name");
-    let calls = uploads(alloc).expect(&rt, "calls");
-    let mut quota = Quota::new(alloc, MemoryStorage::new(alloc, 64, Vec::new(alloc)), 64);
-    quota.budget(ann, 10).expect(&rt, "a budget");
-    let verdicts = replay(alloc, &mut quota, calls.as_slice()).expect(&rt, "verdicts");
-    let due = [
-        Verdict::Done,
-        Verdict::Done,
-        Verdict::Done,
-        Verdict::Refused(ErrorKind::ExceededStorageAllocationError),
-        Verdict::Refused(ErrorKind::PermissionDenied),
-    ];
-    assert_eq!(rt; verdicts.as_slice(), due.as_slice());
+    let verdicts = verdicts(rt.alloc()).expect(&rt, "verdicts");
+    same(&rt, &verdicts.as_slice(), &VERDICTS.as_slice());
+}
+
+/// How many bytes a user's files have after the calls.
+fn usage(alloc: Global, user: &[u8]) -> Result<u64, AllocError> {
+    let calls = uploads(alloc)?;
+    let storage = MemoryStorage::new(alloc, 64, Vec::new(alloc));
+    let user = Bytes::from_slice(alloc, user)?;
+    usage_after(alloc, storage, calls.as_slice(), &user)
 }
 
 #[test]
 fn a_users_files_come_to_what_was_stored(rt: HostRuntime) {
-    let alloc = rt.alloc();
-    let calls = uploads(alloc).expect(&rt, "calls");
-    for (user, usage) in [(b"ann", 5), (b"bob", 0)] {
-        let name = Bytes::from_slice(alloc, user).expect(&rt, "a name");
-        let storage = MemoryStorage::new(alloc, 64, Vec::new(alloc));
-        let found = usage_after(alloc, storage, calls.as_slice(), &name);
-        assert_eq!(rt; found, Ok(usage));
-    }
+    same(&rt, &usage(rt.alloc(), b"ann"), &Ok(5));
+    same(&rt, &usage(rt.alloc(), b"bob"), &Ok(0));
 }

@@ -1,5 +1,6 @@
 //! A visit and its lines: a login that fails, one that is let in, an upload, and the end of the session.
 
+use crate::same::same;
 use crate::values::{log_of, pooled};
 use ftp_audit::{LogForm, log_text};
 
@@ -21,18 +22,27 @@ const VISIT: &[&[u8]] = &[
     b"2000 closed 7",
 ];
 
+/// Both forms of the lines.
+const FORMS: [(LogForm, &[u8]); 2] = [
+    (
+        LogForm::Own,
+        b"2026-11-28T13:57:01.000Z 7 192.0.2.5 unknown connect 0 0 ok -\n\
+          2026-11-28T13:57:01.020Z 7 192.0.2.5 ann login 0 0 failed -\n\
+          2026-11-28T13:57:01.040Z 7 192.0.2.5 ann login 0 0 ok -\n\
+          2026-11-28T13:57:02.250Z 7 192.0.2.5 ann STOR 5 250 ok /a\\x20b\n\
+          2026-11-28T13:57:03.000Z 7 192.0.2.5 ann end 0 0 closed -\n",
+    ),
+    (
+        LogForm::Xferlog,
+        b"Sat Nov 28 13:57:02 2026 0 192.0.2.5 5 /a_b b _ i r ann ftp 0 * c\n",
+    ),
+];
+
 #[test]
 fn a_visit_has_its_lines_in_both_forms(rt: HostRuntime) {
-    let alloc = rt.alloc();
-    let log = log_of(&rt, alloc, pooled(&rt, alloc), &[VISIT]);
-    let own: &[u8] = b"2026-11-28T13:57:01.000Z 7 192.0.2.5 unknown connect 0 0 ok -\n\
-        2026-11-28T13:57:01.020Z 7 192.0.2.5 ann login 0 0 failed -\n\
-        2026-11-28T13:57:01.040Z 7 192.0.2.5 ann login 0 0 ok -\n\
-        2026-11-28T13:57:02.250Z 7 192.0.2.5 ann STOR 5 250 ok /a\\x20b\n\
-        2026-11-28T13:57:03.000Z 7 192.0.2.5 ann end 0 0 closed -\n";
-    let xferlog: &[u8] = b"Sat Nov 28 13:57:02 2026 0 192.0.2.5 5 /a_b b _ i r ann ftp 0 * c\n";
-    for (form, lines) in [(LogForm::Own, own), (LogForm::Xferlog, xferlog)] {
-        let found = log_text(alloc, form, START, &log).expect(&rt, "a text");
-        assert_eq!(rt; found.as_slice(), lines);
+    let log = log_of(&rt, rt.alloc(), pooled(&rt, rt.alloc()), &[VISIT]);
+    for (form, lines) in &FORMS {
+        let found = log_text(rt.alloc(), *form, START, &log).expect(&rt, "a text");
+        same(&rt, &found.as_slice(), lines);
     }
 }

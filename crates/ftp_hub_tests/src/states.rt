@@ -1,9 +1,10 @@
 //! Texts of states, and texts that no state has.
 
+use crate::same::same;
 use ftp_base::Bytes;
 use ftp_hub::StateError;
 use ftp_text::{decode_state, encode_state};
-use std::alloc::Global;
+use std::alloc::{AllocError, Global};
 
 // A client that logged in and asked for a passive port.
 const ANN: &[u8] = b"checkpoint 1 5 0\n\
@@ -44,69 +45,64 @@ fn is_text(alloc: Global, text: &[u8]) -> bool {
 fn a_state_is_written_as_it_was_read(rt: HostRuntime) {
     let alloc = rt.alloc();
     for text in [ANN, MANY, b"checkpoint 1 0 0\n"] {
-        assert!(rt; is_text(alloc, text));
+        same(&rt, &is_text(alloc, text), &true);
     }
 }
 
-fn refusal(alloc: Global, text: &[u8]) -> Option<StateError> {
+/// The number of the first bad line, or 0 where the text is a state's.
+fn bad_line(alloc: Global, text: &[u8]) -> Result<u64, AllocError> {
     match decode_state(alloc, text) {
-        Ok(_) => None,
-        Err(e) => Some(e),
+        Ok(_) => Ok(0),
+        Err(StateError::BadLine(number)) => Ok(number),
+        Err(_) => Err(AllocError),
     }
 }
+
+const BAD_LINES: [(&[u8], u64); 22] = [
+    // The last line may lack its line feed, and no line is skipped.
+    (b"checkpoint 1 5 0\nused 1 1", 0),
+    (b"", 1),
+    (b"used 1 1\n", 1),
+    (b"checkpoint 2 5 0\n", 1),
+    (b"checkpoint 1 5 2\n", 1),
+    (b"checkpoint 1 05 0\n", 1),
+    (b"checkpoint 1 5 0\n\n", 2),
+    (b"checkpoint 1 5 0\n# nothing\n", 2),
+    (b"checkpoint 1 5 0\ncheckpoint 1 5 0\n", 2),
+    // Intervals that are none, or touch.
+    (b"checkpoint 1 5 0\nused 2 1\n", 2),
+    (b"checkpoint 1 5 0\nused 1 1\nused 2 2\n", 3),
+    // A key that stands already, keys of two policies, and no key.
+    (b"checkpoint 1 5 0\nrecord 1 0 - 1 a\nrecord 1 0 - 1 a\n", 3),
+    (
+        b"checkpoint 1 5 0\nrecord 1 0 - 1 a\nrecord 1 0 10.0.0.1 1 a\n",
+        3,
+    ),
+    (b"checkpoint 1 5 0\nrecord 1 0 - - \n", 2),
+    // Lengths that are not those of the text.
+    (b"checkpoint 1 5 0\nrecord 1 0 - 3 an\n", 2),
+    (b"checkpoint 1 5 0\nrecord 1 0 - 1 an\n", 2),
+    (b"checkpoint 1 5 0\nrecord 1 0 - 4 \\xc3\\xa4\n", 2),
+    // A directory that is none, numbers that do not rise, and what has no session or no slot.
+    (
+        b"checkpoint 1 5 0\nsession 1 10.0.0.1:1 10.0.0.9:21 10.0.0.1 1 new 0 0 0 0 - a\n",
+        2,
+    ),
+    (b"checkpoint 1 5 0\nslot 1 1 waits 50000\n", 2),
+    (
+        b"checkpoint 1 5 0\nused 1 1\nsession 1 10.0.0.1:1 10.0.0.9:21 10.0.0.1 1 cmd 0 0 0 0 0 /\nqueued 1 1 0 retr - 1 f/f\n",
+        4,
+    ),
+    (
+        b"checkpoint 1 5 0\njob 2 1 0 0 0 3 retr 0 - 1 f/f\njob 2 2 0 0 0 4 retr 0 - 1 f/f\n",
+        3,
+    ),
+    (b"checkpoint 1 5 0\njob 2 1 0 0 0 3 nlst 0 1 1 af/f\n", 2),
+];
 
 #[test]
 fn the_first_bad_line_is_told(rt: HostRuntime) {
-    let alloc = rt.alloc();
-    for (text, due) in [
-        // The last line may lack its line feed, and no line is skipped.
-        (b"checkpoint 1 5 0\nused 1 1".as_slice(), 0),
-        (b"", 1),
-        (b"used 1 1\n", 1),
-        (b"checkpoint 2 5 0\n", 1),
-        (b"checkpoint 1 5 2\n", 1),
-        (b"checkpoint 1 05 0\n", 1),
-        (b"checkpoint 1 5 0\n\n", 2),
-        (b"checkpoint 1 5 0\n# nothing\n", 2),
-        (b"checkpoint 1 5 0\ncheckpoint 1 5 0\n", 2),
-        // Intervals that are none, or touch.
-        (b"checkpoint 1 5 0\nused 2 1\n", 2),
-        (b"checkpoint 1 5 0\nused 1 1\nused 2 2\n", 3),
-        // A key that stands already, keys of two policies, and no key.
-        (b"checkpoint 1 5 0\nrecord 1 0 - 1 a\nrecord 1 0 - 1 a\n", 3),
-        (
-            b"checkpoint 1 5 0\nrecord 1 0 - 1 a\nrecord 1 0 10.0.0.1 1 a\n",
-            3,
-        ),
-        (b"checkpoint 1 5 0\nrecord 1 0 - - \n", 2),
-        // Lengths that are not those of the text.
-        (b"checkpoint 1 5 0\nrecord 1 0 - 3 an\n", 2),
-        (b"checkpoint 1 5 0\nrecord 1 0 - 1 an\n", 2),
-        (b"checkpoint 1 5 0\nrecord 1 0 - 4 \\xc3\\xa4\n", 2),
-        // A directory that is none, numbers that do not rise, and what has no session or no slot.
-        (
-            b"checkpoint 1 5 0\nsession 1 10.0.0.1:1 10.0.0.9:21 10.0.0.1 1 new 0 0 0 0 - a\n",
-            2,
-        ),
-        (b"checkpoint 1 5 0\nslot 1 1 waits 50000\n", 2),
-        (
-            b"checkpoint 1 5 0\nused 1 1\nsession 1 10.0.0.1:1 10.0.0.9:21 10.0.0.1 1 cmd 0 0 0 0 0 /\nqueued 1 1 0 retr - 1 f/f\n",
-            4,
-        ),
-        (
-            b"checkpoint 1 5 0\njob 2 1 0 0 0 3 retr 0 - 1 f/f\njob 2 2 0 0 0 4 retr 0 - 1 f/f\n",
-            3,
-        ),
-        (b"checkpoint 1 5 0\njob 2 1 0 0 0 3 nlst 0 1 1 af/f\n", 2),
-    ] {
-        let told = refusal(alloc, text);
-        assert_eq!(rt;
-            told,
-            if due == 0 {
-                None
-            } else {
-                Some(StateError::BadLine(due))
-            }
-        );
+    for (text, due) in &BAD_LINES {
+        same(&rt, &bad_line(rt.alloc(), text), &Ok(*due));
     }
 }

@@ -1,5 +1,6 @@
 //! Readers and writers as sources and sinks.
 
+use crate::same::same;
 use ftp_base::{Failed, Sink, Source};
 use ftp_text::{Input, Output};
 use std::io;
@@ -29,17 +30,16 @@ impl Write for Broken {
 fn an_input_gives_bytes_or_fails(rt: HostRuntime) {
     let mut out = [0; 4];
     let mut good = Input::new(b"ab".as_slice());
-    assert_eq!(rt; good.read(&mut out), Ok(2));
-    assert_eq!(rt; out.as_slice(), b"ab\0\0".as_slice());
-    assert_eq!(rt; good.read(&mut out), Ok(0));
-    assert_eq!(rt; Input::new(Broken).read(&mut out), Err(Failed::Fault));
+    same(&rt, &(good.read(&mut out), &out), &(Ok(2), b"ab\0\0"));
+    same(&rt, &good.read(&mut out), &Ok(0));
+    same(&rt, &Input::new(Broken).read(&mut out), &Err(Failed::Fault));
 }
 
 #[test]
 fn an_output_takes_bytes_or_fails(rt: HostRuntime) {
     let mut taken = Vec::new(rt.alloc());
     let wrote = Output::new(&mut taken).write(b"ab");
-    assert_eq!(rt; wrote, Ok(2));
-    assert_eq!(rt; taken.as_slice(), b"ab".as_slice());
-    assert_eq!(rt; Output::new(Broken).write(b"ab"), Err(Failed::Fault));
+    same(&rt, &wrote, &Ok(2));
+    same(&rt, &taken.as_slice(), &b"ab".as_slice());
+    same(&rt, &Output::new(Broken).write(b"ab"), &Err(Failed::Fault));
 }

@@ -48,14 +48,11 @@ pub struct Talked {
 }
 
 impl Talked {
-    /// The path of the job that started first.
-    pub fn path(&self, alloc: Global) -> Result<Option<Bytes>, AllocError> {
+    /// The path of the job that started first, empty where none did.
+    pub fn path(&self, alloc: Global) -> Result<Bytes, AllocError> {
         match &self.job {
-            Some(share) => {
-                let job = share.job(alloc)?;
-                Ok(Some(job.path))
-            }
-            None => Ok(None),
+            Some(share) => Ok(share.job(alloc)?.path),
+            None => Bytes::from_slice(alloc, b""),
         }
     }
 }

@@ -1,5 +1,6 @@
 //! What is printed: replies, numbers, paths and times.
 
+use crate::same::same;
 use ftp_base::{
     Bytes, ControlChanMsg, IpAddr, Meta, PortAllocationError, Reply, ReplyCode, ReplyText,
     SocketAddr, TraceId,
@@ -8,12 +9,18 @@ use ftp_events::{make_pasv_reply, port_target, reply_of};
 use ftp_options::PassiveHost;
 use ftp_transfer::{HumanDuration, format_facts, join_path};
 use std::alloc::{AllocError, Global};
-use std::test::Fail;
+use std::process::Abort;
 
 fn joined(alloc: Global, cwd: &[u8], arg: &[u8]) -> Result<Bytes, AllocError> {
     let cwd = Bytes::from_slice(alloc, cwd)?;
     let arg = Bytes::from_slice(alloc, arg)?;
     join_path(alloc, &cwd, &arg)
+}
+
+/// A text is this one.
+fn is_text(rt: &impl Abort, found: Result<Bytes, AllocError>, due: &[u8]) {
+    let found = found.expect(rt, "a text");
+    same(rt, &found.as_slice(), &due);
 }
 
 /// A reply to a name, as it is sent.
@@ -25,14 +32,6 @@ fn asked_for_a_password(alloc: Global) -> Result<Bytes, AllocError> {
     reply.encode(alloc)
 }
 
-#[test]
-fn a_reply_ends_in_cr_lf(rt: HostRuntime) {
-    let asked = asked_for_a_password(rt.alloc()).expect(&rt, "a line");
-    assert_eq!(rt; asked.as_slice(), b"331 Password Required\r\n".as_slice());
-    let nothing = Reply::None.encode(rt.alloc()).expect(&rt, "no line");
-    assert_eq!(rt; nothing.as_slice(), b"".as_slice());
-}
-
 /// The address 127.0.0.1.
 const LOOPBACK: u32 = 0x7f00_0001;
 
@@ -40,38 +39,6 @@ const LOOPBACK: u32 = 0x7f00_0001;
 fn passive(alloc: Global, host: &PassiveHost) -> Result<Bytes, AllocError> {
     let reply = make_pasv_reply(alloc, host, 0x0a00_0009, None, 50000)?;
     reply.encode(alloc)
-}
-
-// RFC 959, section 4.1.2: h1,h2,h3,h4,p1,p2, and 50000 is 195 * 256 + 80.
-#[test]
-fn a_passive_reply_shows_six_numbers(rt: HostRuntime) {
-    let own = passive(rt.alloc(), &PassiveHost::FromConnection).expect(&rt, "a line");
-    assert_eq!(rt;
-        own.as_slice(),
-        b"227 Entering Passive Mode (10,0,0,9,195,80)\r\n".as_slice()
-    );
-    let fixed = passive(rt.alloc(), &PassiveHost::Ip(LOOPBACK)).expect(&rt, "a line");
-    assert_eq!(rt;
-        fixed.as_slice(),
-        b"227 Entering Passive Mode (127,0,0,1,195,80)\r\n".as_slice()
-    );
-}
-
-// And 30000 is 117 * 256 + 48.
-#[test]
-fn six_numbers_are_an_address(rt: HostRuntime) {
-    let target = SocketAddr {
-        ip: IpAddr::V4(LOOPBACK),
-        port: 30000,
-    };
-    for (text, found) in [
-        (b"127,0,0,1,117,48".as_slice(), Some(target)),
-        (b"127,0,0,1,117", None),
-        (b"127,0,0,1,117,48,1", None),
-        (b"127,0,0,1,x,48", None),
-    ] {
-        assert_eq!(rt; port_target(text), found);
-    }
 }
 
 /// The reply to a login that succeeds, as it is sent.
@@ -82,71 +49,116 @@ fn let_in(alloc: Global) -> Result<Bytes, AllocError> {
     reply.encode(alloc)
 }
 
+// RFC 959, section 4.1.2: h1,h2,h3,h4,p1,p2, and 50000 is 195 * 256 + 80.
 #[test]
-fn a_login_that_succeeds_is_told_as_230(rt: HostRuntime) {
-    let told = let_in(rt.alloc()).expect(&rt, "a line");
-    assert_eq!(rt;
-        told.as_slice(),
-        b"230 User logged in, proceed\r\n".as_slice()
+fn a_reply_ends_in_cr_lf_and_a_passive_one_shows_six_numbers(rt: HostRuntime) {
+    let alloc = rt.alloc();
+    is_text(
+        &rt,
+        asked_for_a_password(alloc),
+        b"331 Password Required\r\n",
+    );
+    is_text(&rt, let_in(alloc), b"230 User logged in, proceed\r\n");
+    is_text(&rt, Reply::None.encode(alloc), b"");
+    is_text(
+        &rt,
+        passive(alloc, &PassiveHost::FromConnection),
+        b"227 Entering Passive Mode (10,0,0,9,195,80)\r\n",
+    );
+    is_text(
+        &rt,
+        passive(alloc, &PassiveHost::Ip(LOOPBACK)),
+        b"227 Entering Passive Mode (127,0,0,1,195,80)\r\n",
     );
 }
 
+/// Texts of six numbers and others, and their addresses; 30000 is 117 * 256 + 48.
+const TARGETS: [(&[u8], Option<SocketAddr>); 4] = [
+    (
+        b"127,0,0,1,117,48",
+        Some(SocketAddr {
+            ip: IpAddr::V4(LOOPBACK),
+            port: 30000,
+        }),
+    ),
+    (b"127,0,0,1,117", None),
+    (b"127,0,0,1,117,48,1", None),
+    (b"127,0,0,1,x,48", None),
+];
+
 #[test]
-fn a_trace_id_is_hexadecimal(rt: HostRuntime) {
-    for (id, text) in [(255, b"0xff".as_slice()), (0, b"0x0")] {
-        let found = TraceId::new(id).text(rt.alloc()).expect(&rt, "a text");
-        assert_eq!(rt; found.as_slice(), text);
+fn six_numbers_are_an_address(rt: HostRuntime) {
+    for (text, found) in &TARGETS {
+        same(&rt, &port_target(text), found);
     }
 }
+
+const TRACE_IDS: [(u64, &[u8]); 2] = [(255, b"0xff"), (0, b"0x0")];
+
+#[test]
+fn a_trace_id_is_hexadecimal(rt: HostRuntime) {
+    for (id, text) in &TRACE_IDS {
+        is_text(&rt, TraceId::new(*id).text(rt.alloc()), text);
+    }
+}
+
+/// A directory, an argument, and the path that it leads to.
+const PATHS: [(&[u8], &[u8], &[u8]); 5] = [
+    (b"/uploads", b"a", b"/uploads/a"),
+    (b"/uploads", b"../a", b"/uploads/../a"),
+    (b"/", b"a", b"/a"),
+    (b"/uploads", b"/a", b"/a"),
+    (b"/uploads", b"", b"/uploads/"),
+];
 
 #[test]
 fn an_argument_leads_from_a_directory(rt: HostRuntime) {
-    let rows: [(&[u8], &[u8], &[u8]); 5] = [
-        (b"/uploads", b"a", b"/uploads/a"),
-        (b"/uploads", b"../a", b"/uploads/../a"),
-        (b"/", b"a", b"/a"),
-        (b"/uploads", b"/a", b"/a"),
-        (b"/uploads", b"", b"/uploads/"),
-    ];
-    for (cwd, arg, path) in rows {
-        let found = joined(rt.alloc(), cwd, arg).expect(&rt, "a path");
-        assert_eq!(rt; found.as_slice(), path);
+    for (cwd, arg, path) in &PATHS {
+        is_text(&rt, joined(rt.alloc(), cwd, arg), path);
     }
 }
 
+const DURATIONS: [(u64, &[u8]); 4] = [
+    (3_661_001, b"1h 1m 1s 1ms"),
+    (0, b"0ms"),
+    (60_000, b"1m 0s 0ms"),
+    (1_000, b"1s 0ms"),
+];
+
 #[test]
 fn leading_zero_parts_are_dropped(rt: HostRuntime) {
-    let rows: [(u64, &[u8]); 4] = [
-        (3_661_001, b"1h 1m 1s 1ms"),
-        (0, b"0ms"),
-        (60_000, b"1m 0s 0ms"),
-        (1_000, b"1s 0ms"),
-    ];
-    for (millis, text) in rows {
-        let found = HumanDuration(millis).text(rt.alloc()).expect(&rt, "a text");
-        assert_eq!(rt; found.as_slice(), text);
+    for (millis, text) in &DURATIONS {
+        is_text(&rt, HumanDuration(*millis).text(rt.alloc()), text);
     }
 }
 
 // RFC 3659, section 7: a fact is a name, an equals sign, a value and a semicolon.
+const FACTS: [(Meta, &[u8]); 2] = [
+    (
+        Meta {
+            is_dir: false,
+            len: 5,
+        },
+        b"type=file;size=5;",
+    ),
+    (
+        Meta {
+            is_dir: true,
+            len: 0,
+        },
+        b"type=dir;",
+    ),
+];
+
 #[test]
 fn a_file_tells_its_type_and_size_and_a_directory_its_type(rt: HostRuntime) {
-    for (is_dir, len, facts) in [
-        (false, 5, b"type=file;size=5;".as_slice()),
-        (true, 0, b"type=dir;"),
-    ] {
-        let text = format_facts(rt.alloc(), &Meta { is_dir, len }).expect(&rt, "facts");
-        assert_eq!(rt; text.as_slice(), facts);
+    for (meta, facts) in &FACTS {
+        is_text(&rt, format_facts(rt.alloc(), meta), facts);
     }
 }
 
 #[test]
-fn a_port_that_is_not_given_is_told(rt: HostRuntime) -> Result<(), Fail> {
-    let alloc = rt.alloc();
-    let e = PortAllocationError;
-    assert_eq!(rt;
-        format!(in alloc; "{e}")?.as_str(),
-        "Could not allocate port"
-    );
-    Ok(())
+fn a_port_that_is_not_given_is_told(rt: HostRuntime) {
+    let text = format!(in rt.alloc(); "{PortAllocationError}").expect(&rt, "a text");
+    same(&rt, &text.as_str(), &"Could not allocate port");
 }

@@ -5,9 +5,10 @@ ghost use Rattle.ftp_options.specs.Modes.{is_legacy};
 ghost use Rattle.ftp_events.specs.Right.{IsRight};
 
 use crate::headline::run_all;
+use crate::same::holds;
 use ftp_base::{Bytes, LinkTable, MemoryLink, MemoryStorage, StoreError};
-use ftp_events::{Decision, HubEvent, Log};
-use ftp_hub::covers;
+use ftp_events::{Answer, Decision, Entry, HubEvent, Log};
+use ftp_hub::{Hub, covers};
 use ftp_options::{ActivePassiveMode, Options, ServerBuilder};
 use ftp_text::read_event;
 use std::alloc::{AllocError, Global};
@@ -38,14 +39,20 @@ pub fn event(rt: &impl Abort, alloc: Global, line: &[u8]) -> HubEvent {
     read_event(alloc, line).ok().expect(rt, "an event")
 }
 
+/// The line of a script happens on a hub.
+pub fn step(rt: &impl Abort, alloc: Global, hub: &mut Hub, line: &[u8], answer: Answer) -> Entry {
+    let event = event(rt, alloc, line);
+    let room = hub.prepare(&event).ok().expect(rt, "room");
+    hub.step(room, event, answer)
+}
+
 /// The events of lines, one script behind the other.
 pub fn events(rt: &impl Abort, alloc: Global, scripts: &[&[&[u8]]]) -> Vec<HubEvent> {
     let mut events = Vec::new(alloc);
     for script in scripts {
         for line in *script {
-            events
-                .push(event(rt, alloc, line))
-                .expect(rt, "room for an event");
+            let event = event(rt, alloc, line);
+            events.push(event).ok().expect(rt, "room for an event");
         }
     }
     events
@@ -82,7 +89,7 @@ pub fn log_of(rt: &impl Abort, alloc: Global, options: Options, scripts: &[&[&[u
     let events = events(rt, alloc, scripts);
     let mut storage = storage(alloc).ok().expect(rt, "a storage");
     let mut links = links(rt, alloc);
-    assert!(rt; covers(&links, &events));
+    holds(rt, covers(&links, &events));
     run_all(alloc, options, &mut storage, &mut links, &events)
         .ok()
         .expect(rt, "a log")

@@ -60,11 +60,11 @@ const ROWS: [Row<'static>; 7] = [
 
 #[test]
 fn words_of_clients_are_answered_in_their_order(rt: HostRuntime) {
-    for (lines, replies) in ROWS {
+    for (lines, replies) in &ROWS {
         for chunk in [1, 65536] {
             let files = storage(rt.alloc()).expect(&rt, "files");
             let words = FileExtras::new(rt.alloc(), OFFERS, files);
-            compare(&rt, rt.alloc(), (lines, replies, None), chunk, Some(words));
+            compare(&rt, rt.alloc(), (lines, replies, b""), chunk, Some(words));
         }
     }
 }
