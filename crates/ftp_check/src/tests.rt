@@ -6,7 +6,6 @@ use ftp_base::{MemorySink, MemorySource};
 use ftp_check_log::{CHECK_HELP, CHECK_VERSION, CheckStatus, run_check};
 use std::alloc::{AllocError, Global};
 use std::process::Abort;
-use std::test::Fail;
 
 const POOLED: &str = "options pooled 50000 50001 connection passive 600 off restart\n";
 
@@ -66,94 +65,129 @@ fn checked(
     Ok((status, sink.written().to_vec(alloc)?))
 }
 
-/// Does what a command asks for, by a log that comes in pieces, and compares how that ends and what it writes.
-fn expect(
-    rt: &impl Abort,
-    alloc: Global,
-    command: &str,
-    parts: &[&str],
-    chunk: u32,
-    status: CheckStatus,
-    line: &str,
-) -> Result<(), AllocError>
-    requires { 1 ≤ chunk }
-{
-    let (found, written) = checked(alloc, command, parts, chunk, &[], &[])?;
-    assert_eq!(rt;
-        (found, written.as_slice()),
-        (status, line.as_bytes()),
-        "{line}"
-    );
-    Ok(())
-}
+/// A command, the parts of its log, how it ends, and what it writes.
+type Row = (
+    &'static str,
+    &'static [&'static str],
+    CheckStatus,
+    &'static str,
+);
 
-#[test]
-fn a_login_is_right_and_each_change_of_it_is_named(rt: HostRuntime) -> Result<(), Fail> {
-    for (opened, password, status, line) in [
-        (OPENED, PASSWORD, CheckStatus::Done, "right 4\n"),
-        (
-            "= used\n",
-            PASSWORD,
-            CheckStatus::Wrong,
-            "wrong 0 due opened\n",
-        ),
-        (OPENED, "", CheckStatus::Wrong, "actions 1\n"),
-    ] {
-        let parts = [POOLED, CONNECT, opened, USER, NEED_PASS, password, LOGIN];
-        expect(&rt, rt.alloc(), "check", &parts, 7, status, line)?;
-        expect(&rt, rt.alloc(), "check", &parts, 65536, status, line)?;
+/// Does what commands ask for, by logs that come in pieces, and compares how they end and what they write.
+fn compare(rt: &impl Abort, alloc: Global, rows: &[Row]) {
+    for (command, parts, status, line) in rows {
+        for chunk in [7, 65536] {
+            let run = checked(alloc, command, parts, chunk, &[], &[]);
+            let (found, written) = run.expect(rt, "a check");
+            is_as_due(rt, (found, written.as_slice()), (*status, line.as_bytes()));
+        }
     }
-    Ok(())
 }
 
-#[test]
-fn a_bad_text_is_known_by_its_line(rt: HostRuntime) -> Result<(), Fail> {
-    for (first, second, third, fourth, line) in [
-        (POOLED, CONNECT, "= opened", "", 3),
-        (POOLED, CONNECT, OPENED, USER, 4),
-        (CONNECT, OPENED, "\n", USER, 3),
-        ("# a log\n", CONNECT, OPENED, "", 1),
-        (CONNECT, OPENED, POOLED, "", 3),
-        (CONNECT, OPENED, "- reply 1 0 331\n", USER, 3),
-        (CONNECT, OPENED, "link 1 sent .\n", "", 3),
-    ] {
-        let parts = [first, second, third, fourth];
-        expect(
-            &rt,
-            rt.alloc(),
-            "check",
-            &parts,
-            5,
-            CheckStatus::BadText(line),
-            "",
-        )?;
-    }
-    Ok(())
+/// A command ended so, and wrote this.
+fn is_as_due(rt: &impl Abort, found: (CheckStatus, &[u8]), due: (CheckStatus, &[u8])) {
+    assert_eq!(rt; found, due);
 }
 
-#[test]
-fn an_answer_that_decides_nothing_is_right(rt: HostRuntime) -> Result<(), Fail> {
-    let answer = "? done sent 0 -\n";
-    let parts = [CONNECT, OPENED, USER, answer, NEED_PASS, PASSWORD];
-    expect(
-        &rt,
-        rt.alloc(),
+/// A login is right, and each change of it is named.
+const LOGINS: [Row; 3] = [
+    (
         "check",
-        &parts,
-        65536,
+        &[POOLED, CONNECT, OPENED, USER, NEED_PASS, PASSWORD, LOGIN],
+        CheckStatus::Done,
+        "right 4\n",
+    ),
+    (
+        "check",
+        &[
+            POOLED, CONNECT, "= used\n", USER, NEED_PASS, PASSWORD, LOGIN,
+        ],
+        CheckStatus::Wrong,
+        "wrong 0 due opened\n",
+    ),
+    (
+        "check",
+        &[POOLED, CONNECT, OPENED, USER, NEED_PASS, LOGIN],
+        CheckStatus::Wrong,
+        "actions 1\n",
+    ),
+];
+
+#[test]
+fn a_login_is_right_and_each_change_of_it_is_named(rt: HostRuntime) {
+    compare(&rt, rt.alloc(), &LOGINS);
+}
+
+const BAD_TEXTS: [Row; 7] = [
+    (
+        "check",
+        &[POOLED, CONNECT, "= opened"],
+        CheckStatus::BadText(3),
+        "",
+    ),
+    (
+        "check",
+        &[POOLED, CONNECT, OPENED, USER],
+        CheckStatus::BadText(4),
+        "",
+    ),
+    (
+        "check",
+        &[CONNECT, OPENED, "\n", USER],
+        CheckStatus::BadText(3),
+        "",
+    ),
+    (
+        "check",
+        &["# a log\n", CONNECT, OPENED],
+        CheckStatus::BadText(1),
+        "",
+    ),
+    (
+        "check",
+        &[CONNECT, OPENED, POOLED],
+        CheckStatus::BadText(3),
+        "",
+    ),
+    (
+        "check",
+        &[CONNECT, OPENED, "- reply 1 0 331\n", USER],
+        CheckStatus::BadText(3),
+        "",
+    ),
+    (
+        "check",
+        &[CONNECT, OPENED, "link 1 sent .\n"],
+        CheckStatus::BadText(3),
+        "",
+    ),
+];
+
+#[test]
+fn a_bad_text_is_known_by_its_line(rt: HostRuntime) {
+    compare(&rt, rt.alloc(), &BAD_TEXTS);
+}
+
+const UNDECIDED: [Row; 2] = [
+    (
+        "check",
+        &[
+            CONNECT,
+            OPENED,
+            USER,
+            "? done sent 0 -\n",
+            NEED_PASS,
+            PASSWORD,
+        ],
         CheckStatus::Done,
         "right 2\n",
-    )?;
-    expect(
-        &rt,
-        rt.alloc(),
-        "check",
-        &[],
-        65536,
-        CheckStatus::Done,
-        "right 0\n",
-    )?;
-    Ok(())
+    ),
+    ("check", &[], CheckStatus::Done, "right 0\n"),
+];
+
+#[test]
+fn an_answer_that_decides_nothing_is_right(rt: HostRuntime) {
+    compare(&rt, rt.alloc(), &UNDECIDED);
 }
 
 // Two more sessions of the client log in, and each of the three asks for a port, of which there are two.
@@ -190,31 +224,52 @@ const TWO_MORE: &str = "> 0 connect 2 10.0.0.1:4000 10.0.0.9:21 2
 - reply 3 0 425 Could not allocate passive port
 ";
 
+const ENTRIES: &[&str] = &[
+    POOLED, CONNECT, OPENED, USER, NEED_PASS, PASSWORD, LOGIN, TWO_MORE,
+];
+
+const EXPLAINED: [Row; 5] = [
+    ("why 14", ENTRIES, CheckStatus::Done, "full 12 13\n"),
+    ("why 13", ENTRIES, CheckStatus::Done, "plain\n"),
+    ("why 15", ENTRIES, CheckStatus::NoEntry, ""),
+    (
+        "why 18446744073709551616",
+        ENTRIES,
+        CheckStatus::NoEntry,
+        "",
+    ),
+    (
+        "why 0",
+        &[
+            POOLED, CONNECT, OPENED, USER, NEED_PASS, PASSWORD, LOGIN, TWO_MORE, CONNECT,
+        ],
+        CheckStatus::BadText(44),
+        "",
+    ),
+];
+
 #[test]
-fn an_entry_is_explained_or_there_is_none(rt: HostRuntime) -> Result<(), Fail> {
-    for (command, last, status, line) in [
-        ("why 14", "", CheckStatus::Done, "full 12 13\n"),
-        ("why 13", "", CheckStatus::Done, "plain\n"),
-        ("why 15", "", CheckStatus::NoEntry, ""),
-        ("why 18446744073709551616", "", CheckStatus::NoEntry, ""),
-        ("why 0", CONNECT, CheckStatus::BadText(44), ""),
-    ] {
-        let parts = [
-            POOLED, CONNECT, OPENED, USER, NEED_PASS, PASSWORD, LOGIN, TWO_MORE, last,
-        ];
-        expect(&rt, rt.alloc(), command, &parts, 100, status, line)?;
-    }
-    Ok(())
+fn an_entry_is_explained_or_there_is_none(rt: HostRuntime) {
+    compare(&rt, rt.alloc(), &EXPLAINED);
 }
 
 #[test]
-fn faults_are_told(rt: HostRuntime) -> Result<(), Fail> {
+fn faults_are_told(rt: HostRuntime) {
     let parts = [CONNECT, OPENED];
-    let (status, written) = checked(rt.alloc(), "check", &parts, 10, &[3], &[])?;
-    assert_eq!(rt; (status, written.len()), (CheckStatus::ReadFault, 0));
-    let (status, written) = checked(rt.alloc(), "check", &parts, 10, &[], &[1])?;
-    assert_eq!(rt; (status, written.len()), (CheckStatus::WriteFault, 0));
-    Ok(())
+    let read = checked(rt.alloc(), "check", &parts, 10, &[3], &[]);
+    let (status, written) = read.expect(&rt, "a check");
+    is_as_due(
+        &rt,
+        (status, written.as_slice()),
+        (CheckStatus::ReadFault, b""),
+    );
+    let write = checked(rt.alloc(), "check", &parts, 10, &[], &[1]);
+    let (status, written) = write.expect(&rt, "a check");
+    is_as_due(
+        &rt,
+        (status, written.as_slice()),
+        (CheckStatus::WriteFault, b""),
+    );
 }
 
 /// How a command ends and what it prints, of words with a space between them, where every read would fail.
@@ -226,23 +281,22 @@ fn told(alloc: Global, words: &str) -> Result<(CheckStatus, Vec<u8>), AllocError
     Ok((status, sink.written().to_vec(alloc)?))
 }
 
+const WORDS: [(&str, CheckStatus, &[u8]); 9] = [
+    ("--help", CheckStatus::Done, CHECK_HELP),
+    ("--version", CheckStatus::Done, CHECK_VERSION),
+    ("", CheckStatus::Usage, b""),
+    ("Check", CheckStatus::Usage, b""),
+    ("check check", CheckStatus::Usage, b""),
+    ("--help check", CheckStatus::Usage, b""),
+    ("why", CheckStatus::Usage, b""),
+    ("why 01", CheckStatus::Usage, b""),
+    ("why 1 2", CheckStatus::Usage, b""),
+];
+
 #[test]
-fn words_are_commands_or_usage(rt: HostRuntime) -> Result<(), Fail> {
-    for (words, text) in [("--help", CHECK_HELP), ("--version", CHECK_VERSION)] {
-        let (status, written) = told(rt.alloc(), words)?;
-        assert_eq!(rt; (status, written.as_slice()), (CheckStatus::Done, text));
+fn words_are_commands_or_usage(rt: HostRuntime) {
+    for (words, status, text) in &WORDS {
+        let (found, written) = told(rt.alloc(), words).expect(&rt, "an answer");
+        is_as_due(&rt, (found, written.as_slice()), (*status, text));
     }
-    for words in [
-        "",
-        "Check",
-        "check check",
-        "--help check",
-        "why",
-        "why 01",
-        "why 1 2",
-    ] {
-        let (status, written) = told(rt.alloc(), words)?;
-        assert_eq!(rt; (status, written.len()), (CheckStatus::Usage, 0), "{words}");
-    }
-    Ok(())
 }

@@ -6,7 +6,6 @@ use ftp_script_run::{
     taken_transfers_are_done, told_faults_are_listed,
 };
 use std::alloc::{AllocError, Global};
-use std::test::Fail;
 
 /// How a script ends.
 fn end_of(alloc: Global, script: &[u8]) -> Result<Status, AllocError> {
@@ -29,35 +28,46 @@ fn comments(alloc: Global, lines: u32, last: u32) -> Result<Vec<u8>, AllocError>
     Ok(script)
 }
 
-#[test]
-fn a_line_and_a_script_have_their_limits(rt: HostRuntime) -> Result<(), Fail> {
-    for (lines, last, status) in [
-        (0, 65536, Status::Done),
-        (0, 65537, Status::BadLine(1)),
-        (256, 0, Status::Done),
-        (256, 1, Status::BadLine(257)),
-    ] {
-        let script = comments(rt.alloc(), lines, last)?;
-        let end = end_of(rt.alloc(), script.as_slice())?;
-        assert_eq!(rt; end, status);
-    }
-    Ok(())
+/// How a script of comments ends.
+fn end_of_comments(alloc: Global, lines: u32, last: u32) -> Result<Status, AllocError> {
+    let script = comments(alloc, lines, last)?;
+    end_of(alloc, script.as_slice())
 }
 
+const LIMITS: [(u32, u32, Status); 4] = [
+    (0, 65536, Status::Done),
+    (0, 65537, Status::BadLine(1)),
+    (256, 0, Status::Done),
+    (256, 1, Status::BadLine(257)),
+];
+
 #[test]
-fn other_words_are_no_command(rt: HostRuntime) -> Result<(), Fail> {
-    let alloc = rt.alloc();
+fn a_line_and_a_script_have_their_limits(rt: HostRuntime) {
+    for (lines, last, status) in &LIMITS {
+        let end = end_of_comments(rt.alloc(), *lines, *last);
+        assert_eq!(rt; end, Ok(*status));
+    }
+}
+
+/// The statuses of runs with none of the words, both and one, where the first read fails, and the next run reads on from there.
+fn codes(alloc: Global) -> Result<Vec<u8>, AllocError> {
     let words = [b"script".to_vec(alloc)?, b"script".to_vec(alloc)?];
     let words = words.as_slice();
     let fails = [1].to_vec(alloc)?;
     let mut source = MemorySource::new(b"0 fly".to_vec(alloc)?, 1, fails);
     let mut sink = MemorySink::new(alloc, 1, Vec::new(alloc));
-    // The first read fails, and the next run reads on from there.
-    for (count, code) in [(0, 64), (2, 64), (1, 3), (1, 2)] {
+    let mut codes = Vec::new(alloc);
+    for count in [0, 2, 1, 1] {
         let status = run_script(alloc, &words[..count], &mut source, &mut sink);
-        assert_eq!(rt; status.code(), code);
+        codes.push(status.code())?;
     }
-    Ok(())
+    Ok(codes)
+}
+
+#[test]
+fn other_words_are_no_command(rt: HostRuntime) {
+    let codes = codes(rt.alloc()).expect(&rt, "statuses");
+    assert_eq!(rt; codes.as_slice(), [64, 64, 3, 2].as_slice());
 }
 
 #[test]
