@@ -12,10 +12,10 @@ use std::process::Abort;
 /// The kind of a call, its two paths, and the answer that is due.
 type Row = (u64, &'static str, &'static str, &'static str);
 
-const PUT: &str = "[Ok(()), Ok(()), Err(Kind(PermanentFileNotAvailable))]";
+const PUT: &str = "(Ok(()), Ok(()), Err(Kind(PermanentFileNotAvailable)))";
 
 const FULL: &str =
-    "[Ok(()), Err(Kind(ExceededStorageAllocationError)), Err(Kind(PermanentFileNotAvailable))]";
+    "(Ok(()), Err(Kind(ExceededStorageAllocationError)), Err(Kind(PermanentFileNotAvailable)))";
 
 const GIVEN_BACK: [Row; 10] = [
     (5, "/a", "/x", PUT),
