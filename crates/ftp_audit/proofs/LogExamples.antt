@@ -1,6 +1,7 @@
 -- Worked days.
 use Rattle.std.proofs.Common.{◌≡◌, refl, ℕ, [], ◌∷◌, map}
-use Rattle.ftp_audit.specs.Calendar.{Date, date_of, month_at, year_at}
+use Rattle.ftp_places.specs.declared.date.Date.{Date}
+use Rattle.ftp_audit.specs.Calendar.{date_of, month_at, year_at}
 
 date : ℕ → ℕ → ℕ → Date
 date year month day = record { year = year; month = month; day = day }

@@ -1,44 +1,30 @@
 -- Days and times of day, UTC, in the calendar that leaves out three leap years in four hundred.
-use Rattle.std.specs.Prelude.{ℕ, zero, suc, ◌+◌, ◌-◌, ◌*◌, ◌/◌, ◌%◌, ◌==◌, ◌&&◌, ◌||◌, not, nat_lt, Bool, List, [], ◌∷◌, ◌++◌, codes, decimal, if◌then◌else◌}
-
--- a day: its year, its month and its number in the month, both from 1
-pub record Date : Type 0 where
-  pub year : ℕ
-  pub month : ℕ
-  pub day : ℕ
-
--- the year has a 29th of February
-abbrev pub is_leap : ℕ → Bool
-is_leap year = (year % 4 == 0) && (not (year % 100 == 0) || (year % 400 == 0))
-
--- how many days a year has
-abbrev pub year_days : ℕ → ℕ
-year_days year = if is_leap year then 366 else 365
-
--- how many days the months have
-abbrev pub month_days : ℕ → List ℕ
-month_days year = 31 ∷ (year_days year - 337) ∷ 31 ∷ 30 ∷ 31 ∷ 30 ∷ 31 ∷ 31 ∷ 30 ∷ 31 ∷ 30 ∷ 31 ∷ []
+use Rattle.std.specs.Prelude.{ℕ, zero, suc, ◌+◌, ◌-◌, ◌*◌, ◌/◌, ◌%◌, ◌==◌, nat_lt, List, [], ◌∷◌, ◌++◌, codes, decimal, if◌then◌else◌}
+use Rattle.ftp_places.specs.declared.date.Date.{Date}
+use Rattle.ftp_places.specs.Date.{days_of_year, days_of_month}
 
 -- the year in which a day lies, counted from the first day of a year on, and how many days of it lie before; so many years are tried
 unfoldable pub year_at : ℕ → ℕ → ℕ → ℕ × ℕ
 year_at zero year days = (year, days)
-year_at (suc n) year days = if nat_lt days (year_days year) then (year, days) else year_at n (year + 1) (days - year_days year)
+year_at (suc n) year days = if nat_lt days (days_of_year year) then (year, days) else year_at n (year + 1) (days - days_of_year year)
 
--- the month in which a day lies, counted from the first day of a month on, and how many days of it lie before
-unfoldable pub month_at : List ℕ → ℕ → ℕ → ℕ × ℕ
-month_at [] month days = (month, days)
-month_at (n ∷ lengths) month days = if nat_lt days n then (month, days) else month_at lengths (month + 1) (days - n)
+-- the month of a year in which a day lies, counted from the first day of a month on, and how many days of it lie before; so many
+-- months are tried
+unfoldable pub month_at : ℕ → ℕ → ℕ → ℕ → ℕ × ℕ
+month_at zero year month days = (month, days)
+month_at (suc n) year month days =
+    if nat_lt days (days_of_month year month) then (month, days) else month_at n year (month + 1) (days - days_of_month year month)
 
--- the year of a day that is counted from the first day of 1970: 400 years have 146,097 days
-abbrev pub year_of : ℕ → ℕ × ℕ
-year_of days = year_at 400 (1970 + 400 * (days / 146097)) (days % 146097)
-
--- the date of a day that is counted from the first day of 1970
-abbrev pub date_of : ℕ → Date
-date_of days =
-    let in_year = year_of days in
-    let in_month = month_at (month_days in_year.0) 1 in_year.1 in
+-- the date of a day of the 400 years from 1970 on
+abbrev pub date_in : ℕ → Date
+date_in days =
+    let in_year = year_at 400 1970 days in
+    let in_month = month_at 12 in_year.0 1 in_year.1 in
     record { year = in_year.0; month = in_month.0; day = in_month.1 + 1 }
+
+-- the date of a day that is counted from the first day of 1970: each 400 years have 146,097 days
+abbrev pub date_of : ℕ → Date
+date_of days = let date = date_in (days % 146097) in record date { year = date.year + 400 * (days / 146097) }
 
 -- the last two digits of a number
 abbrev pub two : ℕ → List ℕ

@@ -1,99 +1,26 @@
 //! Days and times of day, UTC.
 
-ghost use Rattle.std.specs.Prelude.{◌≡◌, ◌+◌, ◌<◌, ◌≤◌, ◌++◌, length, OnOk};
-ghost use Rattle.ftp_audit.specs.Calendar.{is_leap, year_days, month_days, month_at, year_of, date_of, two, clock_text, day_of, date_text, iso_text, weekday_text, month_text, padded_day, ctime_text};
+ghost use Rattle.std.specs.Prelude.{◌≡◌, ◌++◌, OnOk};
+ghost use Rattle.ftp_audit.specs.Calendar.{date_of, two, clock_text, day_of, date_text, iso_text, weekday_text, month_text, padded_day, ctime_text};
 
+use ftp_places::{Date, a_day_has_one_date, date_at};
 use ftp_text::writing::{put, put_byte, put_decimal};
 use std::alloc::AllocError;
 
 // 400 years.
 const CYCLE_DAYS: u64 = 146_097;
 
-// A day: its year, its month and its number in the month, both from 1.
-#[derive(Clone, Copy)]
-pub(crate) struct CivilDate {
-    pub(crate) year: u64,
-    pub(crate) month: u64,
-    pub(crate) day: u64,
-}
-
-fn is_leap(year: u64) -> bool
-    ensures { result ≡ is_leap year }
-{
-    year % 4 == 0 && (year % 100 != 0 || year % 400 == 0)
-}
-
-fn year_days(year: u64) -> u64
-    ensures { result ≡ year_days year }
-{
-    if is_leap(year) { 366 } else { 365 }
-}
-
-fn month_days(year: u64) -> [u64; 12]
-    ensures { result ≡ month_days year }
-{
-    [
-        31,
-        year_days(year) - 337,
-        31,
-        30,
-        31,
-        30,
-        31,
-        31,
-        30,
-        31,
-        30,
-        31,
-    ]
-}
-
-// The year of a day that is counted from the first day of 1970, and how many days of it lie before.
-fn year_of(days: u64) -> (u64, u64)
-    ensures year { result ≡ year_of days }
-    ensures low { result.1 < 146097 }
-{
-    let mut year = 1970 + 400 * (days / CYCLE_DAYS);
-    let mut left = days % CYCLE_DAYS;
-    for _tried in 0..400u32 {
-        let length = year_days(year);
-        if left < length {
-            return (year, left);
-        }
-        year += 1;
-        left -= length;
-    }
-    (year, left)
-}
-
-// The month of a day of a year, and how many days of it lie before.
-fn month_of(lengths: &[u64], days: u64) -> (u64, u64)
-    requires { length lengths.now < 100 }
-    ensures month { result ≡ month_at lengths.now 1 days }
-    ensures low { result.1 ≤ days }
-{
-    let mut month = 1;
-    let mut left = days;
-    for length in lengths {
-        if left < *length {
-            return (month, left);
-        }
-        month += 1;
-        left -= *length;
-    }
-    (month, left)
-}
-
 // The date of a day that is counted from the first day of 1970.
-fn date_of(days: u64) -> CivilDate
-    ensures { date_of days ≡ record { year = result.year; month = result.month; day = result.day } }
+fn date_of(days: u64) -> Date
+    ensures { result ≡ date_of days }
 {
-    let (year, left) = year_of(days);
-    let (month, before) = month_of(&month_days(year), left);
-    CivilDate {
-        year,
-        month,
-        day: before + 1,
+    // A day has no other date.
+    a_day_has_one_date();
+    let date = date_at((719_528 + days % CYCLE_DAYS) * 86_400);
+    Date {
+        year: date.year + 400 * (days / CYCLE_DAYS),
+        month: date.month,
+        day: date.day,
     }
 }
 
