@@ -40,7 +40,7 @@ abbrev pub client_of_guest : Option Guest → Option IpAddr
 client_of_guest g = option_map (λ g. g.client) g
 
 -- the name that a session gave last
-abbrev pub name_of_guest : Option Guest → List ℕ
+unfoldable pub name_of_guest : Option Guest → List ℕ
 name_of_guest None = codes "unknown"
 name_of_guest (Some g) = unwrap_or g.name (codes "unknown")
 
@@ -74,16 +74,25 @@ ending_result decision.TimedOut = result.TimedOut
 ending_result decision.Stopped = result.Stopped
 ending_result d = result.Closed
 
--- the line that a notification of a user tells: what moved is told by its transfer
+-- what a notification of a user tells: a word, how it came out, and a path. What moved is told by its transfer
+unfoldable pub told_by_notice : Decision → Notice → Option (LineWord × LineResult × List ℕ)
+told_by_notice d (Presence presence.LoggedIn) = Some (word.Login, result.Done, [])
+told_by_notice d (Presence presence.LoggedOut) = Some (word.End, ending_result d, [])
+told_by_notice d (Data (Deleted path)) = Some (word.Dele, result.Done, path)
+told_by_notice d (Data (RemovedDir path)) = Some (word.Rmd, result.Done, path)
+told_by_notice d (Data (MadeDir path)) = Some (word.Mkd, result.Done, path)
+told_by_notice d (Data (Renamed from to)) = Some (word.Rnto, result.Done, from)
+told_by_notice d _ = None
+
+-- the path that a file or a directory has once it was renamed
+unfoldable pub new_path : Notice → Option (List ℕ)
+new_path (Data (Renamed from to)) = Some to
+new_path _ = None
+
+-- the line that a notification of a user tells
 abbrev pub line_by_notice : Entry → ℕ → Option Guest → List ℕ → Notice → Option LogLine
-line_by_notice e s g user (Presence presence.LoggedIn) = Some (plain_line e s (client_of_guest g) user word.Login result.Done [])
-line_by_notice e s g user (Presence presence.LoggedOut) = Some (plain_line e s (client_of_guest g) user word.End (ending_result e.decision) [])
-line_by_notice e s g user (Data (Deleted path)) = Some (plain_line e s (client_of_guest g) user word.Dele result.Done path)
-line_by_notice e s g user (Data (RemovedDir path)) = Some (plain_line e s (client_of_guest g) user word.Rmd result.Done path)
-line_by_notice e s g user (Data (MadeDir path)) = Some (plain_line e s (client_of_guest g) user word.Mkd result.Done path)
-line_by_notice e s g user (Data (Renamed from to)) =
-    Some (record (plain_line e s (client_of_guest g) user word.Rnto result.Done from) { to = Some to })
-line_by_notice e s g user _ = None
+line_by_notice e s g user what =
+    option_map (λ (t : LineWord × LineResult × List ℕ). record (plain_line e s (client_of_guest g) user t.0 t.1 t.2) { to = new_path what }) (told_by_notice e.decision what)
 
 -- ---- transfers
 

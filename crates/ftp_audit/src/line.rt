@@ -2,8 +2,8 @@
 
 ghost use Rattle.std.specs.Prelude.{◌≡◌, ℕ, IfOk, OnOk, nat_eq, ◌++◌};
 ghost use Rattle.std.specs.HashMap as map;
-ghost use Rattle.std.specs.Option.{option_copied};
-ghost use Rattle.ftp_audit.specs.Lines.{plain_line, client_of_guest, failure_line, failure_result, line_by_decision, line_by_notice, line_by_action, ending_result, line_result_of, completed_result, completed_bytes, cancelled_bytes, moved_of, settled_line};
+ghost use Rattle.std.specs.Option.{option_copied, option_map};
+ghost use Rattle.ftp_audit.specs.Lines.{plain_line, client_of_guest, failure_line, failure_result, line_by_decision, line_by_notice, line_by_action, ending_result, line_result_of, completed_result, completed_bytes, cancelled_bytes, moved_of, name_of_guest, new_path, settled_line, told_by_notice};
 ghost use Rattle.ftp_audit.specs.Tickets.{request_at};
 
 use crate::guest::{Guest, client_by};
@@ -115,12 +115,26 @@ fn plain_line(
 }
 
 // Where the client of a session is.
-fn client_of(guests: &HashMap<u64, Guest>, session: u64) -> Option<IpAddr>
-    ensures { result ≡ client_of_guest (map.get nat_eq guests.now session) }
+fn client_of(guest: Option<&Guest>) -> Option<IpAddr>
+    ensures { result ≡ client_of_guest (option_copied guest.entry) }
 {
-    match guests.get(&session) {
+    match guest {
         Some(guest) => Some(guest.client),
         None => None,
+    }
+}
+
+// The name that a session gave last.
+#[tactic(auto, unfolding(crate::specs::Lines::name_of_guest))]
+fn name_of(guest: Option<&Guest>) -> &[u8]
+    ensures { result.now ≡ name_of_guest (option_copied guest.entry) }
+{
+    match guest {
+        Some(guest) => match &guest.name {
+            Some(name) => name.as_slice(),
+            None => b"unknown",
+        },
+        None => b"unknown",
     }
 }
 
@@ -144,41 +158,17 @@ fn failure_line(
 ) -> Result<LogLine, AllocError>
     ensures { IfOk result (λ line. line ≡ failure_line entry.now lock session (map.get nat_eq guests.now session)) }
 {
-    let outcome = failure_result(lock);
-    match guests.get(&session) {
-        Some(guest) => match &guest.name {
-            Some(name) => plain_line(
-                alloc,
-                entry,
-                session,
-                Some(guest.client),
-                name.as_slice(),
-                LineWord::Login,
-                outcome,
-                &[],
-            ),
-            None => plain_line(
-                alloc,
-                entry,
-                session,
-                Some(guest.client),
-                b"unknown",
-                LineWord::Login,
-                outcome,
-                &[],
-            ),
-        },
-        None => plain_line(
-            alloc,
-            entry,
-            session,
-            None,
-            b"unknown",
-            LineWord::Login,
-            outcome,
-            &[],
-        ),
-    }
+    let guest = guests.get(&session);
+    plain_line(
+        alloc,
+        entry,
+        session,
+        client_of(guest),
+        name_of(guest),
+        LineWord::Login,
+        failure_result(lock),
+        &[],
+    )
 }
 
 /// The line that a decision tells.
@@ -227,6 +217,43 @@ fn ending_result(decision: Decision) -> LineResult
     }
 }
 
+// What a notification of a user tells: a word, how it came out, and a path.
+#[tactic(auto, unfolding(crate::specs::Lines::told_by_notice))]
+fn told_by_notice(decision: Decision, what: &Notice) -> Option<(LineWord, LineResult, &[u8])>
+    ensures { option_map (λ told. (told.0, told.1, told.2.now)) result ≡ told_by_notice decision what.now }
+{
+    let done = LineResult::Done;
+    let none: &[u8] = &[];
+    match what {
+        Notice::Presence(PresenceEvent::LoggedIn) => Some((LineWord::Login, done, none)),
+        Notice::Presence(PresenceEvent::LoggedOut) => {
+            Some((LineWord::End, ending_result(decision), none))
+        }
+        Notice::Data(DataEvent::Deleted { path }) => Some((LineWord::Dele, done, path.as_slice())),
+        Notice::Data(DataEvent::RemovedDir { path }) => Some((
+            LineWord::Rmd,
+            done,
+            path.as_slice(),
+        )),
+        Notice::Data(DataEvent::MadeDir { path }) => Some((LineWord::Mkd, done, path.as_slice())),
+        Notice::Data(DataEvent::Renamed { from, .. }) => {
+            Some((LineWord::Rnto, done, from.as_slice()))
+        }
+        _ => None,
+    }
+}
+
+// The path that a file or a directory has once it was renamed.
+#[tactic(auto, unfolding(crate::specs::Lines::new_path))]
+fn new_path(alloc: Global, what: &Notice) -> Result<Option<Bytes>, AllocError>
+    ensures { IfOk result (λ path. path ≡ new_path what.now) }
+{
+    match what {
+        Notice::Data(DataEvent::Renamed { to, .. }) => Ok(Some(to.copy(alloc)?)),
+        _ => Ok(None),
+    }
+}
+
 // The line that a notification of a user tells.
 fn line_by_notice(
     alloc: Global,
@@ -238,88 +265,13 @@ fn line_by_notice(
 ) -> Result<Option<LogLine>, AllocError>
     ensures { IfOk result (λ line. line ≡ line_by_notice entry.now session (map.get nat_eq guests.now session) meta.now.username what.now) }
 {
-    let client = client_of(guests, session);
-    let user = meta.username.as_slice();
-    let ended = ending_result(entry.decision);
-    let done = LineResult::Done;
-    let none: &[u8] = &[];
-    let line = match what {
-        Notice::Presence(PresenceEvent::LoggedIn) => {
-            plain_line(
-                alloc,
-                entry,
-                session,
-                client,
-                user,
-                LineWord::Login,
-                done,
-                none,
-            )?
-        }
-        Notice::Presence(PresenceEvent::LoggedOut) => {
-            plain_line(
-                alloc,
-                entry,
-                session,
-                client,
-                user,
-                LineWord::End,
-                ended,
-                none,
-            )?
-        }
-        Notice::Data(DataEvent::Deleted { path }) => {
-            plain_line(
-                alloc,
-                entry,
-                session,
-                client,
-                user,
-                LineWord::Dele,
-                done,
-                path.as_slice(),
-            )?
-        }
-        Notice::Data(DataEvent::RemovedDir { path }) => {
-            plain_line(
-                alloc,
-                entry,
-                session,
-                client,
-                user,
-                LineWord::Rmd,
-                done,
-                path.as_slice(),
-            )?
-        }
-        Notice::Data(DataEvent::MadeDir { path }) => {
-            plain_line(
-                alloc,
-                entry,
-                session,
-                client,
-                user,
-                LineWord::Mkd,
-                done,
-                path.as_slice(),
-            )?
-        }
-        Notice::Data(DataEvent::Renamed { from, to }) => {
-            let mut line = plain_line(
-                alloc,
-                entry,
-                session,
-                client,
-                user,
-                LineWord::Rnto,
-                done,
-                from.as_slice(),
-            )?;
-            line.to = Some(to.copy(alloc)?);
-            line
-        }
-        _ => return Ok(None),
+    let Some((word, outcome, path)) = told_by_notice(entry.decision, what) else {
+        return Ok(None);
     };
+    let client = client_of(guests.get(&session));
+    let user = meta.username.as_slice();
+    let mut line = plain_line(alloc, entry, session, client, user, word, outcome, path)?;
+    line.to = new_path(alloc, what)?;
     Ok(Some(line))
 }
 
