@@ -6,15 +6,13 @@ use Rattle.ftp_events.specs.declared.counters.Counters.{Counters}
 use Rattle.ftp_events.specs.declared.entry.Entry.{Entry}
 use Rattle.ftp_events.specs.declared.status.CommandWord.{CommandWord}
 use Rattle.ftp_events.specs.declared.status.CommandWord.TheVariants.{Retr, Stor, Appe, List as Lists, Nlst, Mlsd}
-use Rattle.ftp_events.specs.declared.status.Status7.{Status7}
 use Rattle.ftp_events.specs.declared.status.Status7.TheVariants as status
 use Rattle.ftp_events.specs.Counts.{failure_count, opened_count, received_bytes, sent_bytes, status_count}
 use Rattle.ftp_events.specs.Session.{live_count}
-use Rattle.ftp_events.specs.declared.tallies.PerCommand.{PerCommand}
 use Rattle.ftp_events.specs.Tallies.{of_status, of_word, saturated}
 use Rattle.ftp_text.specs.Fields.{number}
-use Rattle.ftp_audit.specs.declared.metrics.Direction.{Direction}
-use Rattle.ftp_audit.specs.declared.metrics.Direction.TheVariants.{Sent, Received}
+use Rattle.ftp_audit.specs.declared.metrics.Count.{Count}
+use Rattle.ftp_audit.specs.declared.metrics.Count.TheVariants.{Sent, Received, Ended}
 use Rattle.ftp_audit.specs.Forms.{command_text}
 
 -- the lines that say what a metric is
@@ -25,42 +23,43 @@ metric_head name kind help = codes "# HELP " ++ name ++ 32 ∷ help ++ codes "\n
 unfoldable pub plain_metric : List ℕ → List ℕ → List ℕ → ℕ → List ℕ
 plain_metric name kind help n = metric_head name kind help ++ name ++ number n ++ 10 ∷ []
 
--- the words of statuses
-abbrev pub status_text : Status7 → List ℕ
-status_text status.Success = codes "success"
-status_text status.ClientError = codes "client_error"
-status_text status.ServerError = codes "server_error"
-status_text status.PermissionError = codes "permission_error"
-status_text status.ClientInterrupted = codes "client_interrupted"
-status_text status.NetworkError = codes "network_error"
-status_text status.UnknownError = codes "unknown_error"
-
 -- a label with its value
 unfoldable pub label_text : List ℕ → List ℕ → List ℕ
 label_text name value = name ++ 61 ∷ 34 ∷ value ++ 34 ∷ []
 
--- the number of a metric for a command and another label
-unfoldable pub sample_text : List ℕ → CommandWord → List ℕ → List ℕ → ℕ → List ℕ
-sample_text name w label value n =
-    name ++ 123 ∷ label_text (codes "command") (command_text w) ++ 44 ∷ label_text label value ++ 125 ∷ number n ++ 10 ∷ []
+-- the metric of a count, and its second label with the value
+abbrev pub metric_name : Count → List ℕ
+metric_name (Ended s) = codes "ftp_transfers_total"
+metric_name count = codes "ftp_bytes_total"
 
--- the words of directions
-abbrev pub direction_text : Direction → List ℕ
-direction_text Sent = codes "sent"
-direction_text Received = codes "received"
+abbrev pub metric_label : Count → List ℕ
+metric_label (Ended s) = codes "result"
+metric_label count = codes "direction"
 
--- the bytes of each command in a direction
-abbrev pub direction_bytes : Counters → Direction → PerCommand
-direction_bytes c Sent = c.sent
-direction_bytes c Received = c.received
+abbrev pub label_value : Count → List ℕ
+label_value Sent = codes "sent"
+label_value Received = codes "received"
+label_value (Ended status.Success) = codes "success"
+label_value (Ended status.ClientError) = codes "client_error"
+label_value (Ended status.ServerError) = codes "server_error"
+label_value (Ended status.PermissionError) = codes "permission_error"
+label_value (Ended status.ClientInterrupted) = codes "client_interrupted"
+label_value (Ended status.NetworkError) = codes "network_error"
+label_value (Ended status.UnknownError) = codes "unknown_error"
 
--- the bytes of a command in a direction
-unfoldable pub bytes_sample : Direction → (CommandWord → ℕ) → CommandWord → List ℕ
-bytes_sample direction bytes w = sample_text (codes "ftp_bytes_total") w (codes "direction") (direction_text direction) (bytes w)
+-- the line of a command for a count, with its number
+unfoldable pub sample_text : (CommandWord → Count → ℕ) → CommandWord → Count → List ℕ
+sample_text number_for w count =
+    metric_name count ++ 123 ∷ label_text (codes "command") (command_text w)
+    ++ 44 ∷ label_text (metric_label count) (label_value count) ++ 125 ∷ number (number_for w count) ++ 10 ∷ []
 
--- the transfers by a command with a status
-unfoldable pub transfers_sample : (CommandWord → Status7 → ℕ) → CommandWord → Status7 → List ℕ
-transfers_sample count w s = sample_text (codes "ftp_transfers_total") w (codes "result") (status_text s) (count w s)
+-- the lines of a command for each of these counts
+unfoldable pub samples_of : (CommandWord → Count → ℕ) → List Count → CommandWord → List ℕ
+samples_of number_for counts w = flat_map (sample_text number_for w) counts
+
+-- the lines of each of these commands for each of these counts
+unfoldable pub samples_text : (CommandWord → Count → ℕ) → List CommandWord → List Count → List ℕ
+samples_text number_for words counts = flat_map (samples_of number_for counts) words
 
 -- the commands that send
 abbrev pub senders : List CommandWord
@@ -74,40 +73,22 @@ receivers = Stor ∷ Appe ∷ []
 abbrev pub movers : List CommandWord
 movers = Retr ∷ Stor ∷ Appe ∷ Lists ∷ Nlst ∷ Mlsd ∷ []
 
--- all statuses
-abbrev pub statuses : List Status7
-statuses =
-    status.Success ∷ status.ClientError ∷ status.ServerError ∷ status.PermissionError
-    ∷ status.ClientInterrupted ∷ status.NetworkError ∷ status.UnknownError ∷ []
-
--- the bytes of commands in a direction
-unfoldable pub moved_text : Direction → (CommandWord → ℕ) → List CommandWord → List ℕ
-moved_text direction bytes words = flat_map (bytes_sample direction bytes) words
-
--- the transfers by a command with each status
-unfoldable pub ended_sample : (CommandWord → Status7 → ℕ) → CommandWord → List ℕ
-ended_sample ended w = flat_map (transfers_sample ended w) statuses
-
--- the transfers by each of these commands with each status
-unfoldable pub ended_text : (CommandWord → Status7 → ℕ) → List CommandWord → List ℕ
-ended_text ended words = flat_map (ended_sample ended) words
-
--- the sessions that are live, and those that were opened
-unfoldable pub sessions_text : ℕ → ℕ → List ℕ
-sessions_text live opened =
-    plain_metric (codes "ftp_sessions") (codes "gauge") (codes "Sessions that are live.") live
-    ++ plain_metric (codes "ftp_sessions_total") (codes "counter") (codes "Sessions that were opened.") opened
+-- all ends of transfers
+abbrev pub all_ends : List Count
+all_ends =
+    Ended status.Success ∷ Ended status.ClientError ∷ Ended status.ServerError ∷ Ended status.PermissionError
+    ∷ Ended status.ClientInterrupted ∷ Ended status.NetworkError ∷ Ended status.UnknownError ∷ []
 
 -- the bytes that transfers have moved
-unfoldable pub bytes_text : (CommandWord → ℕ) → (CommandWord → ℕ) → List ℕ
-bytes_text sent received =
+unfoldable pub bytes_text : (CommandWord → Count → ℕ) → List ℕ
+bytes_text number_for =
     metric_head (codes "ftp_bytes_total") (codes "counter") (codes "Bytes that transfers have moved.")
-    ++ moved_text Sent sent senders ++ moved_text Received received receivers
+    ++ samples_text number_for senders (Sent ∷ []) ++ samples_text number_for receivers (Received ∷ [])
 
 -- the transfers that have ended
-unfoldable pub transfers_text : (CommandWord → Status7 → ℕ) → List ℕ
-transfers_text ended =
-    metric_head (codes "ftp_transfers_total") (codes "counter") (codes "Transfers that have ended.") ++ ended_text ended movers
+unfoldable pub transfers_text : (CommandWord → Count → ℕ) → List ℕ
+transfers_text number_for =
+    metric_head (codes "ftp_transfers_total") (codes "counter") (codes "Transfers that have ended.") ++ samples_text number_for movers all_ends
 
 -- the logins that failed, and those that were locked out
 unfoldable pub logins_text : ℕ → ℕ → List ℕ
@@ -116,17 +97,29 @@ logins_text failures locked =
     ++ plain_metric (codes "ftp_locked_logins_total") (codes "counter") (codes "Logins that were locked out.") locked
 
 -- the text of all metrics, with each number
-abbrev pub metrics_with : ℕ → ℕ → ℕ → ℕ → (CommandWord → ℕ) → (CommandWord → ℕ) → (CommandWord → Status7 → ℕ) → List ℕ
-metrics_with live opened failures locked sent received ended =
-    sessions_text live opened ++ bytes_text sent received ++ transfers_text ended ++ logins_text failures locked
+abbrev pub metrics_with : ℕ → ℕ → ℕ → ℕ → (CommandWord → Count → ℕ) → List ℕ
+metrics_with live opened failures locked number_for =
+    plain_metric (codes "ftp_sessions") (codes "gauge") (codes "Sessions that are live.") live
+    ++ plain_metric (codes "ftp_sessions_total") (codes "counter") (codes "Sessions that were opened.") opened
+    ++ bytes_text number_for ++ transfers_text number_for ++ logins_text failures locked
+
+-- the number that counters have for a command
+abbrev pub number_in : Counters → CommandWord → Count → ℕ
+number_in c w Sent = of_word c.sent w
+number_in c w Received = of_word c.received w
+number_in c w (Ended s) = of_word (of_status c.transferred s) w
 
 -- that of counters
 abbrev pub metrics_text : Counters → ℕ → List ℕ
-metrics_text c locked =
-    metrics_with c.session c.sessions_count c.auth_failures locked (of_word c.sent) (of_word c.received) (λ w s. of_word (of_status c.transferred s) w)
+metrics_text c locked = metrics_with c.session c.sessions_count c.auth_failures locked (number_in c)
+
+-- the number that the entries of a log tell for a command
+abbrev pub number_by : Options → List Entry → CommandWord → Count → ℕ
+number_by o past w Sent = saturated (sent_bytes o past w)
+number_by o past w Received = saturated (received_bytes o past w)
+number_by o past w (Ended s) = saturated (status_count o past w s)
 
 -- that of the entries of a log that were not refused
 abbrev pub metrics_of : Options → List Entry → ℕ → List ℕ
 metrics_of o past locked =
-    metrics_with (saturated (live_count past)) (saturated (opened_count past)) (saturated (failure_count past)) locked
-    (λ w. saturated (sent_bytes o past w)) (λ w. saturated (received_bytes o past w)) (λ w s. saturated (status_count o past w s))
+    metrics_with (saturated (live_count past)) (saturated (opened_count past)) (saturated (failure_count past)) locked (number_by o past)

@@ -4,7 +4,7 @@ ghost use Rattle.std.specs.Prelude.{◌≡◌, ◌++◌, map, OnOk};
 ghost use Rattle.std.specs.List.{flat_map};
 ghost use Rattle.std.specs.Option.{option_to_list};
 ghost use Rattle.ftp_text.specs.Fields.{field};
-ghost use Rattle.ftp_audit.specs.Forms.{maybe_client, bare_byte, blankless, bare_path, other_path, command_text, log_word_text, line_result_text, own_front, own_back, own_line, xferlog_byte, command_direction, direction_of, completion_byte, xferlog_front, xferlog_back, xferlog_with, log_line_text, v6_digits};
+ghost use Rattle.ftp_audit.specs.Forms.{maybe_client, bare_byte, blankless, bare_path, other_path, log_word_text, line_result_text, own_front, own_back, own_line, xferlog_byte, command_direction, direction_of, completion_byte, xferlog_front, xferlog_back, xferlog_with, log_line_text, v6_digits};
 
 use crate::calendar::{put_ctime, put_iso};
 use crate::line::{LineResult, LineWord, LogForm, LogLine};
@@ -79,21 +79,8 @@ fn put_second(out: &mut Vec<u8>, path: &Option<Bytes>) -> Result<(), AllocError>
     }
 }
 
-/// The word of a command.
-pub(crate) fn command_text(word: CommandWord) -> &'static [u8]
-    ensures { result.now ≡ command_text word }
-{
-    match word {
-        CommandWord::Retr => b"RETR",
-        CommandWord::Stor => b"STOR",
-        CommandWord::Appe => b"APPE",
-        CommandWord::List => b"LIST",
-        CommandWord::Nlst => b"NLST",
-        CommandWord::Mlsd => b"MLSD",
-    }
-}
-
-fn word_text(word: LineWord) -> &'static [u8]
+/// The word of a line.
+pub(crate) fn word_text(word: LineWord) -> &'static [u8]
     ensures { result.now ≡ log_word_text word }
 {
     match word {
@@ -101,7 +88,12 @@ fn word_text(word: LineWord) -> &'static [u8]
         LineWord::Login => b"login",
         LineWord::End => b"end",
         LineWord::Transfer(None) => b"-",
-        LineWord::Transfer(Some(command)) => command_text(command),
+        LineWord::Transfer(Some(CommandWord::Retr)) => b"RETR",
+        LineWord::Transfer(Some(CommandWord::Stor)) => b"STOR",
+        LineWord::Transfer(Some(CommandWord::Appe)) => b"APPE",
+        LineWord::Transfer(Some(CommandWord::List)) => b"LIST",
+        LineWord::Transfer(Some(CommandWord::Nlst)) => b"NLST",
+        LineWord::Transfer(Some(CommandWord::Mlsd)) => b"MLSD",
         LineWord::Dele => b"DELE",
         LineWord::Rmd => b"RMD",
         LineWord::Mkd => b"MKD",

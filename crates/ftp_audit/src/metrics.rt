@@ -1,26 +1,26 @@
 //! The counts of a server in the text format of Prometheus.
 
 ghost use Rattle.std.specs.Prelude.{◌≡◌, ◌++◌, List, OnOk};
-ghost use Rattle.std.specs.List.{flat_map};
 ghost use Rattle.ftp_options.specs.declared.options.Options.{Options};
 ghost use Rattle.ftp_events.specs.declared.counters.Counters.{Counters};
 ghost use Rattle.ftp_events.specs.declared.entry.Entry.{Entry};
 ghost use Rattle.ftp_events.specs.Counts.{CountsOf};
 ghost use Rattle.ftp_events.specs.Statuses.{word_of};
-ghost use Rattle.ftp_events.specs.Tallies.{of_status, of_word};
-ghost use Rattle.ftp_audit.specs.Metrics.{bytes_sample, bytes_text, direction_bytes, direction_text, ended_sample, ended_text, label_text, logins_text, metric_head, metrics_of, metrics_text, moved_text, plain_metric, sample_text, sessions_text, status_text, transfers_sample, transfers_text};
+ghost use Rattle.ftp_audit.specs.Metrics.{bytes_text, label_text, label_value, logins_text, metric_head, metric_label, metric_name, metrics_of, metrics_text, number_in, plain_metric, sample_text, samples_of, samples_text, transfers_text};
 
-use crate::form::command_text;
+use crate::form::word_text;
+use crate::line::LineWord;
 use ftp_base::{Bytes, DataChanCmd};
 use ftp_events::{CommandWord, Counters, Status7};
 use ftp_text::writing::{put, put_byte, put_number};
 use std::alloc::{AllocError, Global};
 
-// A direction in which transfers move bytes.
+// What is counted of the transfers by a command.
 #[derive(Clone, Copy)]
-enum Direction {
+enum Count {
     Sent,
     Received,
+    Ended(Status7),
 }
 
 const SENDERS: [CommandWord; 4] = [
@@ -41,14 +41,14 @@ const MOVERS: [CommandWord; 6] = [
     CommandWord::Mlsd,
 ];
 
-const STATUSES: [Status7; 7] = [
-    Status7::Success,
-    Status7::ClientError,
-    Status7::ServerError,
-    Status7::PermissionError,
-    Status7::ClientInterrupted,
-    Status7::NetworkError,
-    Status7::UnknownError,
+const ENDED: [Count; 7] = [
+    Count::Ended(Status7::Success),
+    Count::Ended(Status7::ClientError),
+    Count::Ended(Status7::ServerError),
+    Count::Ended(Status7::PermissionError),
+    Count::Ended(Status7::ClientInterrupted),
+    Count::Ended(Status7::NetworkError),
+    Count::Ended(Status7::UnknownError),
 ];
 
 /// Writes the counters, and how many logins were locked out, in the text format of Prometheus.
@@ -78,40 +78,39 @@ fn put_metrics_of(
 ) -> Result<(), AllocError>
     ensures { OnOk result (out.new.items ≡ out.old.items ++ metrics_text counters.now locked) }
 {
-    put_sessions(out, counters.session(), counters.sessions_count())?;
+    let help = b"Sessions that are live.";
+    put_plain(out, b"ftp_sessions", b"gauge", help, counters.session())?;
+    let help = b"Sessions that were opened.";
+    put_plain(
+        out,
+        b"ftp_sessions_total",
+        b"counter",
+        help,
+        counters.sessions_count(),
+    )?;
     put_bytes(out, alloc, counters)?;
     put_transfers(out, alloc, counters)?;
     put_logins(out, counters.auth_failures(), locked)
 }
 
-// The sessions that are live, and those that were opened.
-fn put_sessions(out: &mut Vec<u8>, live: u64, opened: u64) -> Result<(), AllocError>
-    ensures { OnOk result (out.new.items ≡ out.old.items ++ sessions_text live opened) }
-{
-    let help = b"Sessions that are live.";
-    put_plain(out, b"ftp_sessions", b"gauge", help, live)?;
-    let help = b"Sessions that were opened.";
-    put_plain(out, b"ftp_sessions_total", b"counter", help, opened)
-}
-
 // The bytes that transfers have moved.
 #[tactic(auto, unfolding(crate::specs::Metrics::bytes_text))]
 fn put_bytes(out: &mut Vec<u8>, alloc: Global, counters: &Counters) -> Result<(), AllocError>
-    ensures { OnOk result (out.new.items ≡ out.old.items ++ bytes_text (of_word counters.now.sent) (of_word counters.now.received)) }
+    ensures { OnOk result (out.new.items ≡ out.old.items ++ bytes_text (number_in counters.now)) }
 {
     let help = b"Bytes that transfers have moved.";
     put_head(out, b"ftp_bytes_total", b"counter", help)?;
-    put_moved(out, alloc, counters, Direction::Sent, &SENDERS)?;
-    put_moved(out, alloc, counters, Direction::Received, &RECEIVERS)
+    put_samples(out, alloc, counters, &SENDERS, &[Count::Sent])?;
+    put_samples(out, alloc, counters, &RECEIVERS, &[Count::Received])
 }
 
 // The transfers that have ended.
 fn put_transfers(out: &mut Vec<u8>, alloc: Global, counters: &Counters) -> Result<(), AllocError>
-    ensures { OnOk result (out.new.items ≡ out.old.items ++ transfers_text (λ w s. of_word (of_status counters.now.transferred s) w)) }
+    ensures { OnOk result (out.new.items ≡ out.old.items ++ transfers_text (number_in counters.now)) }
 {
     let help = b"Transfers that have ended.";
     put_head(out, b"ftp_transfers_total", b"counter", help)?;
-    put_ended(out, alloc, counters, &MOVERS)
+    put_samples(out, alloc, counters, &MOVERS, &ENDED)
 }
 
 // The logins that failed, and those that were locked out.
@@ -192,159 +191,103 @@ fn put_label(out: &mut Vec<u8>, name: &[u8], value: &[u8]) -> Result<(), AllocEr
     put_byte(out, b'"')
 }
 
-// The number of a metric for a command and another label.
+fn metric_name(count: Count) -> &'static [u8]
+    ensures { result.now ≡ metric_name count }
+{
+    match count {
+        Count::Ended(_) => b"ftp_transfers_total",
+        _ => b"ftp_bytes_total",
+    }
+}
+
+fn metric_label(count: Count) -> &'static [u8]
+    ensures { result.now ≡ metric_label count }
+{
+    match count {
+        Count::Ended(_) => b"result",
+        _ => b"direction",
+    }
+}
+
+fn label_value(count: Count) -> &'static [u8]
+    ensures { result.now ≡ label_value count }
+{
+    match count {
+        Count::Sent => b"sent",
+        Count::Received => b"received",
+        Count::Ended(Status7::Success) => b"success",
+        Count::Ended(Status7::ClientError) => b"client_error",
+        Count::Ended(Status7::ServerError) => b"server_error",
+        Count::Ended(Status7::PermissionError) => b"permission_error",
+        Count::Ended(Status7::ClientInterrupted) => b"client_interrupted",
+        Count::Ended(Status7::NetworkError) => b"network_error",
+        Count::Ended(Status7::UnknownError) => b"unknown_error",
+    }
+}
+
+// The number that the counters have for a command.
+fn number_in(alloc: Global, counters: &Counters, word: CommandWord, count: Count) -> u64
+    ensures { result ≡ number_in counters.now word count }
+{
+    let command = command_of(alloc, word);
+    match count {
+        Count::Sent => counters.sent_bytes(&command),
+        Count::Received => counters.received_bytes(&command),
+        Count::Ended(status) => counters.transferred(&command, status),
+    }
+}
+
+// The line of a command for a count.
 #[tactic(auto, unfolding(crate::specs::Metrics::sample_text))]
 fn put_sample(
     out: &mut Vec<u8>,
-    name: &[u8],
+    alloc: Global,
+    counters: &Counters,
     word: CommandWord,
-    label: &[u8],
-    value: &[u8],
-    n: u64,
+    count: Count,
 ) -> Result<(), AllocError>
-    ensures { OnOk result (out.new.items ≡ out.old.items ++ sample_text name.now word label.now value.now n) }
+    ensures { OnOk result (out.new.items ≡ out.old.items ++ sample_text (number_in counters.now) word count) }
 {
-    put(out, name)?;
+    put(out, metric_name(count))?;
     put_byte(out, b'{')?;
-    put_label(out, b"command", command_text(word))?;
+    put_label(out, b"command", word_text(LineWord::Transfer(Some(word))))?;
     put_byte(out, b',')?;
-    put_label(out, label, value)?;
+    put_label(out, metric_label(count), label_value(count))?;
     put_byte(out, b'}')?;
-    put_number(out, n)?;
+    put_number(out, number_in(alloc, counters, word, count))?;
     put_byte(out, b'\n')
 }
 
-fn direction_text(direction: Direction) -> &'static [u8]
-    ensures { result.now ≡ direction_text direction }
-{
-    match direction {
-        Direction::Sent => b"sent",
-        Direction::Received => b"received",
-    }
-}
-
-// How many bytes a command has moved in a direction.
-fn moved_by(alloc: Global, counters: &Counters, direction: Direction, word: CommandWord) -> u64
-    ensures { result ≡ of_word (direction_bytes counters.now direction) word }
-{
-    let command = command_of(alloc, word);
-    match direction {
-        Direction::Sent => counters.sent_bytes(&command),
-        Direction::Received => counters.received_bytes(&command),
-    }
-}
-
-// The bytes that a command has moved in a direction.
-#[tactic(auto, unfolding(crate::specs::Metrics::bytes_sample))]
-fn put_moved_by(
+// The lines of a command for each of these counts.
+#[tactic(auto, unfolding(crate::specs::Metrics::samples_of))]
+fn put_samples_of(
     out: &mut Vec<u8>,
     alloc: Global,
     counters: &Counters,
-    direction: Direction,
     word: CommandWord,
+    counts: &[Count],
 ) -> Result<(), AllocError>
-    ensures { OnOk result (out.new.items ≡ out.old.items ++ bytes_sample direction (of_word (direction_bytes counters.now direction)) word) }
+    ensures { OnOk result (out.new.items ≡ out.old.items ++ samples_of (number_in counters.now) counts.now word) }
 {
-    let n = moved_by(alloc, counters, direction, word);
-    let value = direction_text(direction);
-    put_sample(out, b"ftp_bytes_total", word, b"direction", value, n)
-}
-
-// The bytes that commands have moved in a direction.
-#[tactic(auto, unfolding(crate::specs::Metrics::moved_text))]
-fn put_moved(
-    out: &mut Vec<u8>,
-    alloc: Global,
-    counters: &Counters,
-    direction: Direction,
-    words: &[CommandWord],
-) -> Result<(), AllocError>
-    ensures { OnOk result (out.new.items ≡ out.old.items ++ moved_text direction (of_word (direction_bytes counters.now direction)) words.now) }
-{
-    for word in words {
-        put_moved_by(out, alloc, counters, direction, *word)?;
+    for count in counts {
+        put_sample(out, alloc, counters, word, *count)?;
     }
     Ok(())
 }
 
-fn status_text(status: Status7) -> &'static [u8]
-    ensures { result.now ≡ status_text status }
-{
-    match status {
-        Status7::Success => b"success",
-        Status7::ClientError => b"client_error",
-        Status7::ServerError => b"server_error",
-        Status7::PermissionError => b"permission_error",
-        Status7::ClientInterrupted => b"client_interrupted",
-        Status7::NetworkError => b"network_error",
-        Status7::UnknownError => b"unknown_error",
-    }
-}
-
-// How many transfers by a command had a status.
-fn ended_by(alloc: Global, counters: &Counters, word: CommandWord, status: Status7) -> u64
-    ensures { result ≡ of_word (of_status counters.now.transferred status) word }
-{
-    counters.transferred(&command_of(alloc, word), status)
-}
-
-// The transfers by a command with a status.
-#[tactic(auto, unfolding(crate::specs::Metrics::transfers_sample))]
-fn put_status_of(
-    out: &mut Vec<u8>,
-    alloc: Global,
-    counters: &Counters,
-    word: CommandWord,
-    status: Status7,
-) -> Result<(), AllocError>
-    ensures { OnOk result (out.new.items ≡ out.old.items ++ transfers_sample (λ w s. of_word (of_status counters.now.transferred s) w) word status) }
-{
-    let n = ended_by(alloc, counters, word, status);
-    let value = status_text(status);
-    put_sample(out, b"ftp_transfers_total", word, b"result", value, n)
-}
-
-// The transfers by a command, with each of these statuses.
-fn put_statuses(
-    out: &mut Vec<u8>,
-    alloc: Global,
-    counters: &Counters,
-    word: CommandWord,
-    words: &[Status7],
-) -> Result<(), AllocError>
-    ensures { OnOk result (out.new.items ≡ out.old.items ++ flat_map (transfers_sample (λ w s. of_word (of_status counters.now.transferred s) w) word) words.now) }
-{
-    for status in words {
-        put_status_of(out, alloc, counters, word, *status)?;
-    }
-    Ok(())
-}
-
-// The transfers by a command, with each status.
-#[tactic(auto, unfolding(crate::specs::Metrics::ended_sample))]
-fn put_ended_of(
-    out: &mut Vec<u8>,
-    alloc: Global,
-    counters: &Counters,
-    word: CommandWord,
-) -> Result<(), AllocError>
-    ensures { OnOk result (out.new.items ≡ out.old.items ++ ended_sample (λ w s. of_word (of_status counters.now.transferred s) w) word) }
-{
-    put_statuses(out, alloc, counters, word, &STATUSES)
-}
-
-// The transfers by each of these commands.
-#[tactic(auto, unfolding(crate::specs::Metrics::ended_text))]
-fn put_ended(
+// The lines of each of these commands for each of these counts.
+#[tactic(auto, unfolding(crate::specs::Metrics::samples_text))]
+fn put_samples(
     out: &mut Vec<u8>,
     alloc: Global,
     counters: &Counters,
     words: &[CommandWord],
+    counts: &[Count],
 ) -> Result<(), AllocError>
-    ensures { OnOk result (out.new.items ≡ out.old.items ++ ended_text (λ w s. of_word (of_status counters.now.transferred s) w) words.now) }
+    ensures { OnOk result (out.new.items ≡ out.old.items ++ samples_text (number_in counters.now) words.now counts.now) }
 {
     for word in words {
-        put_ended_of(out, alloc, counters, *word)?;
+        put_samples_of(out, alloc, counters, *word, counts)?;
     }
     Ok(())
 }
