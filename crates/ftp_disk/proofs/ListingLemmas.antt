@@ -13,8 +13,10 @@ use Rattle.std.specs.Ordering.{nat_cmp, is_lt}
 use Rattle.std.specs.Cmp.Lexicographic.{slice_cmp, nat_list_cmp_total}
 use Rattle.ftp_base.specs.declared.storage.FileInfo.{FileInfo}
 use Rattle.ftp_places.specs.Place.{Location, below_by}
-use Rattle.ftp_disk.specs.FileSystem.{Told}
-use Rattle.ftp_disk.specs.Listing.{child, IsShownBy, IsShownOf, ListsFile, WasShown}
+use Rattle.ftp_disk.specs.declared.standing.Standing.{Standing}
+use Rattle.ftp_disk.specs.FileSystem.{IsUnlinked, Told}
+use Rattle.ftp_disk.specs.Standing.{Stood}
+use Rattle.ftp_disk.specs.Listing.{child, IsListingOf, IsShownBy, IsShownOf, Lists, ListsFile, WasShown}
 use Rattle.ftp_disk.proofs.VisibleLemmas.{dir-of}
 
 -- what a sort by a closure that compares names ensures
@@ -34,6 +36,13 @@ sorted-one info = λ k d low high. absurd (omega arith)
 -- a list that is one of one is sorted
 pub sorted-alone : (info : FileInfo) (infos : List FileInfo) → infos ≡ info ∷ [] → IsSortedByKey (λ (i : FileInfo). i.name) (slice_cmp nat_cmp) infos
 sorted-alone info infos e = subst (λ (is : List FileInfo). IsSortedByKey (λ (i : FileInfo). i.name) (slice_cmp nat_cmp) is) (sym e) (sorted-one info)
+
+-- what is listed where this stands
+pub listing-of :
+    {told : Told} {place : Location} {infos : List FileInfo} (standing : Standing) →
+    IsUnlinked told place → Stood told place standing → Lists told place standing infos → IsSortedByKey (λ (i : FileInfo). i.name) (slice_cmp nat_cmp) infos →
+    IsListingOf told place infos
+listing-of standing unlinked stood listed in_order = record { unlinked = unlinked; standing = standing; stood = stood; listed = listed; in_order = in_order }
 
 -- what is shown by a pattern is shown
 pub WasShown-all : (told : Told) (place : Location) (pattern : List ℕ) (infos : List FileInfo) → All (IsShownOf told place pattern) infos → All (WasShown told place) infos
