@@ -27,13 +27,12 @@ use Rattle.ftp_talk.specs.Ground.{Start, Ground}
 use Rattle.ftp_talk.specs.Halts.{halt_by}
 use Rattle.ftp_talk.specs.Seen.{IsSeen}
 use Rattle.ftp_talk.specs.Talk.{IsInput}
-use Rattle.ftp_talk.specs.Speaking.{Begins, Knows, Keeps, IsCut, Talking, OutcomeHeard, end_by}
+use Rattle.ftp_talk.specs.Speaking.{Begins, Knows, Keeps, StandsAfter, IsCut, Talking, OutcomeHeard, end_by}
 use Rattle.ftp_talk.specs.Control.{peer_of, ground_of, is_opened, is_fault, HasOpened, IsUnopened}
 use Rattle.ftp_talk.specs.ControlWith.{IsServedWith, ServesWith}
 use Rattle.ftp_talk.specs.Extended.{PartsBefore, OutcomeWith}
 use Rattle.ftp_talk.specs.Parts.{HeardLine, MayDoSo, AreAllowed}
-use Rattle.ftp_talk.proofs.DelayLemmas.{paused-none}
-use Rattle.ftp_talk.proofs.PieceLemmas.{pieces-none}
+use Rattle.ftp_talk.proofs.PieceLemmas.{paused-none, pieces-none}
 use Rattle.ftp_talk.proofs.ServeLemmas.{told_self}
 
 pub opened-is : (d : Decision) → is_opened d ≡ true → d ≡ Opened
@@ -82,6 +81,11 @@ kept-open opening a start opened desk1 h = by_journal start.desk.journal h.appen
   by_journal None added = tt
   by_journal (Some J) added = (added.journal, added.fresh h.peer.session (number-of h.entry.event.kind a h.entry.decision h.peer named) h.decision, tt)
 
+after-open : (opening : HubEvent) (a : Answer) (start : Start) (opened state : ControlSession) (desk1 : DeskView) (h : HasOpened opening a start opened desk1) →
+    state.is_over ≡ opened.is_over → StandsAfter (ground_of h.entry h.peer start) state desk1 []
+after-open opening a start opened state desk1 h over =
+    record { over = over ∙ h.begins.live; kept = kept-open opening a start opened desk1 h; refused = omega (arith, h.unrefused); vouched = λ v. tt; share = h.share }
+
 pub journal-open : (o : Option (List Entry)) (e : Entry) (desk desk1 : DeskView) (earlier : List (ℕ × Reply)) →
     IfSome o (λ J. Appends J desk desk1 earlier e) → IfSome o (λ J. desk1.journal ≡ Some ((e ∷ []) ++ J))
 journal-open None e desk desk1 earlier added = tt
@@ -113,12 +117,8 @@ begin-talking opening a start opened state desk1 sent1 left1 h known over wrote 
           seen = seen-none g desk1.faults h.count;
           feed = told_self start.edge.feed (λ f is. is);
           known = known g (h.entry ∷ []) (knows-open h.entry h.peer start opened h.decision h.begins);
-          over = over ∙ h.begins.live;
           ground = record { meaning = refl; options = h.options; files = h.files; journal = journal-open start.desk.journal h.entry start.desk desk1 h.submitted.earlier h.appended };
-          kept = kept-open opening a start opened desk1 h;
-          vouched = λ v. tt;
-          share = h.share;
-          refused = omega (arith, h.unrefused);
+          after = after-open opening a start opened state desk1 h over;
           written = subst (Writes start.sent sent1) (sym (append-nil (greeting_line start.desk.options.greeting))) wrote;
           paused = paused-none start.edge.paused start.edge.paused refl;
         };
@@ -141,13 +141,9 @@ begin-cut opening a start opened state desk1 sent1 h known over wrote =
       parted = parted-none g r.0 r.1;
       front = record {
         session = (known g (h.entry ∷ []) (knows-open h.entry h.peer start opened h.decision h.begins)).session;
-        over = over ∙ h.begins.live;
         options = h.options;
         seen = seen-none g desk1.faults h.count;
-        kept = kept-open opening a start opened desk1 h;
-        vouched = λ v. tt;
-        share = h.share;
-        refused = omega (arith, h.unrefused);
+        after = after-open opening a start opened state desk1 h over;
         written = pieces-none start.sent sent1 start.edge.paused start.edge.paused (greeting_line start.desk.options.greeting) [] wrote refl;
       };
     }

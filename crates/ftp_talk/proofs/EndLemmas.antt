@@ -1,11 +1,13 @@
 -- How a talk ends.
 use Rattle.std.proofs.Common.{◌≡◌, ◌≢◌, ℕ, ◌≤◌, Bool, true, false, cond, List, [], ◌∷◌, ◌++◌, Option, Some, None, refl, sym, ap, subst, ◌∙◌, append_assoc, arith, inl, inr}
-use Rattle.std.specs.Prelude.{IfSome, unwrap_or, Result, Ok, Err}
+use Rattle.std.specs.Prelude.{IfOk, IfSome, unwrap_or, Result, Ok, Err}
+use Rattle.std.specs.declared.alloc.AllocError.{AllocError}
 use Rattle.std.specs.Option.{option_map_or}
 use Rattle.std.specs.Coded.{Coded-set, coded_bool}
 use Rattle.std.proofs.Math.Logic.{∥∥₁_elim}
 use Rattle.std.proofs.lemmas.List.{append-nil}
 use Rattle.ftp_talk.specs.declared.halt.Halt.{Halt}
+use Rattle.ftp_talk.specs.declared.serving.Next.TheVariants.{Close}
 use Rattle.ftp_talk.specs.declared.halt.Halt.TheVariants.{Fault, Memory, Exhausted}
 use Rattle.ftp_base.specs.declared.reply.Reply.{Reply}
 use Rattle.ftp_base.specs.Edge.{Feed, EdgeView}
@@ -35,19 +37,19 @@ use Rattle.ftp_shared.specs.Desk.{DeskView, SameDesk, IsVouched}
 use Rattle.ftp_control.specs.ControlLine.{IsFound, IsLong, RanOut, line_in}
 use Rattle.ftp_control.proofs.ControlLineLemmas.{long-append}
 use Rattle.ftp_talk.specs.Parts.{HeardLine, turns_of, turn_pieces, due_pieces}
-use Rattle.ftp_talk.specs.Extended.{TalkHeard, TalkFrontHeard}
+use Rattle.ftp_talk.specs.Extended.{PartsBefore, TalkHeard, TalkFrontHeard}
 use Rattle.ftp_talk.specs.Pieces.{Pieces}
 use Rattle.ftp_talk.proofs.PieceLemmas.{pieces-longer, pieces-still}
-use Rattle.ftp_talk.proofs.ResultLemmas.{waits_so}
+use Rattle.ftp_talk.proofs.ResultLemmas.{if_ok-then, waits_so}
 use Rattle.ftp_talk.proofs.ServeLemmas.{asking-plain}
 use Rattle.ftp_talk.specs.declared.control_session.ControlSession.{ControlSession}
 use Rattle.ftp_talk.specs.Commands.{too_long}
 use Rattle.ftp_talk.specs.Ground.{Step, ALine, AnAnswer, AnIdleTick, ASlotTick, ALongLine, AClose, Turn, Ground, history, lines_in}
 use Rattle.ftp_talk.specs.Turns.{Due, LineDue, AnswerDue, SlotTickDue, CloseDue, NothingDue, is_end, due, due_by, due_after, due_behind}
 use Rattle.ftp_talk.specs.Seen.{AreFed, all_missing, all_failed, missing_in, failed_in}
-use Rattle.ftp_talk.specs.Talk.{IsInput, greeting_of, is_long, is_long_last, is_over, MayClose}
-use Rattle.ftp_talk.specs.Speaking.{Asking, Entered, Halted, IsCut, IsGot, IsLineWithin, Knows, MayStep, OutcomeHeard, Speaking, Spoken, Standing, Talking, end_by, turn_of}
-use Rattle.ftp_talk.proofs.TalkLemmas.{counted-on, counted-less, kept-more, kept-same, grew-of, rises-same, risen-on, vouched-more, shares-more}
+use Rattle.ftp_talk.specs.Talk.{IsInput, IsLeft, greeting_of, is_long, is_long_last, is_over, MayClose}
+use Rattle.ftp_talk.specs.Speaking.{Asking, Entered, Halted, Front, IsCut, IsGot, IsLineWithin, Knows, MayRefuse, MayStep, OutcomeHeard, Speaking, Spoken, Standing, Talking, end_by, turn_of}
+use Rattle.ftp_talk.proofs.TalkLemmas.{after-same, counted-on, counted-less, kept-more, grew-of, risen-on, vouched-more, shares-more}
 
 -- ---- what is due
 
@@ -138,9 +140,10 @@ idle-may g state rest waits = record { comes = λ h knows. (waits, ap (λ (n : �
 pub slot-may : (g : Ground) (state : ControlSession) (rest : List ℕ) → MayStep g state SlotTickDue ASlotTick (kind.SlotTick state.session) rest
 slot-may g state rest = record { comes = λ h knows. ap (λ (n : ℕ). kind.SlotTick n) knows.session; unheard = refl; long = λ h. cc }
 
--- an answer to a line that is too long may come where it stands next
-pub long-may : (g : Ground) (state : ControlSession) (k : EventKind) (rest : List ℕ) → k ≡ too_long state.session → IsLong rest → MayStep g state LineDue ALongLine k rest
-long-may g state k rest is long = record { comes = λ h knows. is ∙ ap too_long knows.session; unheard = refl; long = λ h. long }
+-- an answer to a line that is too long may come where it stands next, and then the connection is to be closed
+pub refuses-long : (g : Ground) (state : ControlSession) (kind : Result EventKind AllocError) (rest : List ℕ) → IfOk kind (λ k. k ≡ too_long state.session) → IsLong rest → MayRefuse g state ALongLine kind Close rest
+refuses-long g state kind rest given long =
+    (if_ok-then kind (λ k is. record { comes = λ h knows. is ∙ ap too_long knows.session; unheard = refl; long = λ h. long }) given, λ d. refl)
 
 -- ---- the end of a session
 
@@ -169,14 +172,16 @@ talk-over g state edge desk sent hs rest s =
       rest = rest;
       parted = s.parted;
       close = None;
-      ended = over;
-      seen = s.speaking.seen;
-      grew = grew-of g desk (turns_of s.parted.parts) s.speaking.kept;
-      vouched = s.speaking.vouched;
-      last = λ v. over;
-      share = s.speaking.share;
-      written = s.speaking.written;
-      paused = s.speaking.paused;
+      ends = record {
+        ended = over;
+        seen = s.speaking.seen;
+        grew = grew-of g desk (turns_of s.parted.parts) s.speaking.after.kept;
+        vouched = s.speaking.after.vouched;
+        last = λ v. over;
+        share = s.speaking.after.share;
+        written = s.speaking.written;
+        paused = s.speaking.paused;
+      };
     }
 
 -- nothing is asked for a close, which is one of the session of the talk
@@ -202,23 +207,35 @@ talk-closed g state0 state edge0 edge desk0 desk sent0 sent d hs rest d0 s spoke
       rest = rest;
       parted = s.parted;
       close = Some close;
-      ended = (
-        record { step = refl; kind = closed; answer = spoken.answer },
-        lives (turns_of s.parted.parts) d s.stands (closable-lives d rest may),
-        subst (λ (x : Due). MayClose x rest) (sym s.stands) may,
-      );
-      seen = spoken.speaking.seen;
-      grew = grew-of g desk (close ∷ (turns_of s.parted.parts)) spoken.speaking.kept;
-      vouched = spoken.speaking.vouched;
-      last = λ v. closed-ends g.start.desk.options spoken.earlier spoken.entry g.session (spoken.speaking.vouched v).0 closed;
-      share = spoken.speaking.share;
-      written = spoken.speaking.written;
-      paused = spoken.speaking.paused;
+      ends = record {
+        ended = (
+          record { step = refl; kind = closed; answer = spoken.answer },
+          lives (turns_of s.parted.parts) d s.stands (closable-lives d rest may),
+          subst (λ (x : Due). MayClose x rest) (sym s.stands) may,
+        );
+        seen = spoken.speaking.seen;
+        grew = grew-of g desk (close ∷ (turns_of s.parted.parts)) spoken.speaking.after.kept;
+        vouched = spoken.speaking.after.vouched;
+        last = λ v. closed-ends g.start.desk.options spoken.earlier spoken.entry g.session (spoken.speaking.after.vouched v).0 closed;
+        share = spoken.speaking.after.share;
+        written = spoken.speaking.written;
+        paused = spoken.speaking.paused;
+      };
     }
 
 fed-less : (g : Ground) (feed : Option Feed) (t : Turn) (ts : List Turn) → IfSome feed (λ f. AreFed g f (t ∷ ts)) → IfSome feed (λ f. AreFed g f ts)
 fed-less g None t ts h = tt
 fed-less g (Some f) t ts h = h.0
+
+-- a talk that was cut short, and whose connection is not closed
+left-front : (g : Ground) (state : ControlSession) (edge : EdgeView) (desk : DeskView) (sent : Option (List ℕ)) (hs : List HeardLine) (rest : List ℕ) (p : PartsBefore g hs rest) →
+    Front g state edge desk sent (turns_of p.parts) (due_pieces g p.parts) → IsLeft g desk None (turns_of p.parts) → TalkFrontHeard g edge desk sent hs
+left-front g state edge desk sent hs rest p f left = record {
+  rest = rest;
+  parted = p;
+  close = None;
+  ends = record { closing = left; seen = f.seen; grew = grew-of g desk (turns_of p.parts) f.after.kept; vouched = f.after.vouched; share = f.after.share; written = f.written };
+}
 
 -- the connection was to be closed, and that was cut short
 pub front-halted : (g : Ground) (state0 state : ControlSession) (edge0 edge : EdgeView) (desk0 desk : DeskView) (sent0 sent : Option (List ℕ))
@@ -226,19 +243,7 @@ pub front-halted : (g : Ground) (state0 state : ControlSession) (edge0 edge : Ed
     Halted g state edge desk sent (turns_of s.parted.parts) (due_pieces g s.parted.parts) AClose (kind.Closed state0.session) false →
     MayClose d rest →
     TalkFrontHeard g edge desk sent hs
-front-halted g state0 state edge0 edge desk0 desk sent0 sent d hs rest s (inl halted) may =
-    let f = halted.0 in
-    record {
-      rest = rest;
-      parted = s.parted;
-      close = None;
-      closing = inr halted.1;
-      seen = f.seen;
-      grew = grew-of g desk (turns_of s.parted.parts) f.kept;
-      vouched = f.vouched;
-      share = f.share;
-      written = f.written;
-    }
+front-halted g state0 state edge0 edge desk0 desk sent0 sent d hs rest s (inl halted) may = left-front g state edge desk sent hs rest s.parted halted.0 (inr halted.1)
 front-halted g state0 state edge0 edge desk0 desk sent0 sent d hs rest s (inr heard) may =
     let t = turn_of AClose heard.earlier heard.entry in
     let closed = closed-kind g state0 (turns_of s.parted.parts) heard.entry s.speaking.known heard.kind in
@@ -247,53 +252,43 @@ front-halted g state0 state edge0 edge desk0 desk sent0 sent d hs rest s (inr he
       rest = rest;
       parted = s.parted;
       close = Some t;
-      closing = (record { step = refl; kind = closed; answer = heard.answer }, lives (turns_of s.parted.parts) d s.stands (closable-lives d rest may));
-      seen = record {
-        fed = fed-less g g.start.edge.feed t (turns_of s.parted.parts) f.seen.fed;
-        edge = counted-less (all_missing g (turns_of s.parted.parts)) (missing_in g (history g (turns_of s.parted.parts)) heard.entry.event.kind) g.start.edge.faults edge.faults edge.faults f.seen.edge (omega arith);
-        storage = counted-less (all_failed (turns_of s.parted.parts)) (failed_in heard.entry.event.kind) g.start.desk.faults desk.faults desk.faults f.seen.storage (omega arith);
+      ends = record {
+        closing = (record { step = refl; kind = closed; answer = heard.answer }, lives (turns_of s.parted.parts) d s.stands (closable-lives d rest may));
+        seen = record {
+          fed = fed-less g g.start.edge.feed t (turns_of s.parted.parts) f.seen.fed;
+          edge = counted-less (all_missing g (turns_of s.parted.parts)) (missing_in g (history g (turns_of s.parted.parts)) heard.entry.event.kind) g.start.edge.faults edge.faults edge.faults f.seen.edge (omega arith);
+          storage = counted-less (all_failed (turns_of s.parted.parts)) (failed_in heard.entry.event.kind) g.start.desk.faults desk.faults desk.faults f.seen.storage (omega arith);
+        };
+        grew = grew-of g desk (t ∷ (turns_of s.parted.parts)) f.after.kept;
+        vouched = f.after.vouched;
+        share = f.after.share;
+        written = f.written;
       };
-      grew = grew-of g desk (t ∷ (turns_of s.parted.parts)) f.kept;
-      vouched = f.vouched;
-      share = f.share;
-      written = f.written;
     }
 
 -- the session had ended where the talk was cut short
 pub left-over : (g : Ground) (state : ControlSession) (edge : EdgeView) (desk : DeskView) (sent : Option (List ℕ)) (hs : List HeardLine) → IsCut g state edge desk sent hs → state.is_over ≡ true → TalkFrontHeard g edge desk sent hs
-left-over g state edge desk sent hs c over =
-    record {
-      rest = c.rest;
-      parted = c.parted;
-      close = None;
-      closing = inl (sym c.front.over ∙ over);
-      seen = c.front.seen;
-      grew = grew-of g desk (turns_of c.parted.parts) c.front.kept;
-      vouched = c.front.vouched;
-      share = c.front.share;
-      written = c.front.written;
-    }
+left-over g state edge desk sent hs c over = left-front g state edge desk sent hs c.rest c.parted c.front (inl (sym c.front.after.over ∙ over))
 
 -- after the cut there was no memory for the event that closes
 pub left-alone : (g : Ground) (state : ControlSession) (edge edge1 : EdgeView) (desk desk1 : DeskView) (sent : Option (List ℕ)) (hs : List HeardLine) →
     IsCut g state edge desk sent hs → edge.faults ≤ edge1.faults → edge1.paused ≡ edge.paused → SameDesk desk desk1 → HasRisen desk.refused desk1.refused → TalkFrontHeard g edge1 desk1 sent hs
 left-alone g state edge edge1 desk desk1 sent hs c count still same risen =
     let f = c.front in
-    record {
-      rest = c.rest;
-      parted = c.parted;
-      close = None;
-      closing = inr (risen-on g.start.desk.refused desk.refused desk1.refused f.refused risen same.refused);
+    let ts = turns_of c.parted.parts in
+    left-front g state edge1 desk1 sent hs c.rest c.parted
+    (record {
+      session = f.session;
+      options = same.options ∙ f.options;
       seen = record {
         fed = f.seen.fed;
-        edge = counted-on (all_missing g (turns_of c.parted.parts)) g.start.edge.faults edge.faults edge1.faults f.seen.edge count;
-        storage = counted-on (all_failed (turns_of c.parted.parts)) g.start.desk.faults desk.faults desk1.faults f.seen.storage same.count;
+        edge = counted-on (all_missing g ts) g.start.edge.faults edge.faults edge1.faults f.seen.edge count;
+        storage = counted-on (all_failed ts) g.start.desk.faults desk.faults desk1.faults f.seen.storage same.count;
       };
-      grew = grew-of g desk1 (turns_of c.parted.parts) (kept-same g desk desk1 (turns_of c.parted.parts) f.kept same);
-      vouched = f.vouched;
-      share = rises-same _ g.start.desk.share desk.share desk1.share f.share same.share;
+      after = after-same g state desk desk1 ts f.after same;
       written = pieces-still g.start.sent sent g.start.edge.paused edge.paused edge1.paused (greeting_of g) (due_pieces g c.parted.parts) still f.written;
-    }
+    })
+    (inr (risen-on g.start.desk.refused desk.refused desk1.refused f.after.refused risen same.refused))
 
 -- after the cut the connection was closed
 pub left-closed : (g : Ground) (vouches : Bool) (state : ControlSession) (edge edge1 : EdgeView) (desk desk1 : DeskView) (sent : Option (List ℕ)) (hs : List HeardLine)
@@ -309,17 +304,19 @@ left-closed g vouches state edge edge1 desk desk1 sent hs earlier e s c live nam
       rest = c.rest;
       parted = c.parted;
       close = Some t;
-      closing = (record { step = refl; kind = closed; answer = n.answer }, sym f.over ∙ live);
-      seen = record {
-        fed = f.seen.fed;
-        edge = counted-on (all_missing g (turns_of c.parted.parts)) g.start.edge.faults edge.faults edge1.faults f.seen.edge n.taken.count;
-        storage = counted-on (all_failed (turns_of c.parted.parts)) g.start.desk.faults desk.faults desk1.faults f.seen.storage n.count;
+      ends = record {
+        closing = (record { step = refl; kind = closed; answer = n.answer }, sym f.after.over ∙ live);
+        seen = record {
+          fed = f.seen.fed;
+          edge = counted-on (all_missing g (turns_of c.parted.parts)) g.start.edge.faults edge.faults edge1.faults f.seen.edge n.taken.count;
+          storage = counted-on (all_failed (turns_of c.parted.parts)) g.start.desk.faults desk.faults desk1.faults f.seen.storage n.count;
+        };
+        grew = grew-of g desk1 (t ∷ (turns_of c.parted.parts)) (kept-more g desk desk1 (turns_of c.parted.parts) AClose earlier e f.after.kept n.appended (ap own_session closed));
+        vouched = vouched-more g vouches desk (turns_of c.parted.parts) AClose earlier e f.after.vouched same f.options n.vouched;
+        share = shares-more g desk desk1 (turns_of c.parted.parts) AClose earlier e f.after.share n.share;
+        written = pieces-longer g.start.sent sent g.start.edge.paused edge1.paused (greeting_of g) (due_pieces g c.parted.parts) (turn_pieces g t)
+            (pieces-still g.start.sent sent g.start.edge.paused edge.paused edge1.paused (greeting_of g) (due_pieces g c.parted.parts) n.unpaused f.written);
       };
-      grew = grew-of g desk1 (t ∷ (turns_of c.parted.parts)) (kept-more g desk desk1 (turns_of c.parted.parts) AClose earlier e f.kept n.appended (ap own_session closed));
-      vouched = vouched-more g vouches desk (turns_of c.parted.parts) AClose earlier e f.vouched same f.options n.vouched;
-      share = shares-more g desk desk1 (turns_of c.parted.parts) AClose earlier e f.share n.share;
-      written = pieces-longer g.start.sent sent g.start.edge.paused edge1.paused (greeting_of g) (due_pieces g c.parted.parts) (turn_pieces g t)
-          (pieces-still g.start.sent sent g.start.edge.paused edge.paused edge1.paused (greeting_of g) (due_pieces g c.parted.parts) n.unpaused f.written);
     }
 
 -- a fault of a write, or want of memory

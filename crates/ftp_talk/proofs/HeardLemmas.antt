@@ -26,7 +26,7 @@ use Rattle.ftp_talk.specs.Ground.{ALine, Turn, Ground, history}
 use Rattle.ftp_talk.specs.Parts.{HeardLine, MayDoSo, turns_of, IsHeard, GivesMore, heard_as, asker_at, lines_said, with_said, with_spoken, is_epsv_line, pieces_for, due_pieces}
 use Rattle.ftp_talk.specs.Pieces.{Pieces, piece_delays, piece_text, SaysPieces}
 use Rattle.ftp_talk.specs.Saying.{IsPaused}
-use Rattle.ftp_talk.specs.Speaking.{Knows, Speaking, Front, Spoken, Halted, Standing, IsCut, StandsBehind, StandsBehindLine, IsHearing, IsHeardAs, HearsLines, ServesLines, asker_of, due_at, turn_of}
+use Rattle.ftp_talk.specs.Speaking.{Knows, Speaking, Asking, Front, Spoken, Halted, Standing, IsCut, StandsBehind, StandsBehindLine, IsHearing, IsHeardAs, HearsLines, ServesLines, asker_of, due_at, turn_of}
 use Rattle.ftp_talk.specs.Talk.{greeting_of}
 use Rattle.ftp_talk.specs.Turns.{Due, LineDue, NothingDue, is_end, due, due_by, due_behind}
 use Rattle.ftp_talk.proofs.PieceLemmas.{delays-pieces, wrote-pieces, text-one, pieces-behind, pieces-longer, pieces-none, piece-front}
@@ -114,42 +114,46 @@ spoken-more g state edge desk sent sent1 ts pieces y s wrote =
       seen = s.seen;
       feed = s.feed;
       known = s.known;
-      over = s.over;
       ground = s.ground;
-      kept = s.kept;
-      refused = s.refused;
-      vouched = s.vouched;
-      share = s.share;
+      after = s.after;
       written = wrote-pieces g.start.sent sent sent1 (greeting_of g) pieces (line_pieces y) s.written (subst (Writes sent sent1) (sym (text-said y)) wrote);
       paused = subst (λ (n : ℕ). IsPaused n g.start.edge.paused edge.paused) none s.paused;
     }
 
--- a line was heard where one was due, and this is its event, for an EPSV or not
-pub record IsTaken (g : Ground) (state : ControlSession) (edge : EdgeView) (desk : DeskView) (sent : Option (List ℕ)) (x : HeardLine) (k : EventKind) (for_epsv : Bool) (hs : List HeardLine) (rest : List ℕ) : Type 0 where
+-- a line was heard where one was due, and this is its event, for an EPSV or not, for which edge and storage were asked
+pub record IsTaken (g : Ground) (state : ControlSession) (edge edge1 : EdgeView) (desk desk1 : DeskView) (sent : Option (List ℕ)) (x : HeardLine) (k : EventKind) (for_epsv : Bool) (hs : List HeardLine) (rest : List ℕ) : Type 0 where
   pub stands : Standing LineDue g state edge desk sent hs (x.line ++ rest)
   pub hearing : IsHearing state x
   pub gives : GivesMore g (history g (turns_of stands.parted.parts)) x.line x.extra k
+  pub asking : Asking g state edge1 desk1 sent (turns_of stands.parted.parts) (due_pieces g stands.parted.parts) k
   pub epsv : is_epsv_line x.extra ≡ for_epsv
 
-abbrev pub taken : (g : Ground) (state : ControlSession) (edge : EdgeView) (desk : DeskView) (sent : Option (List ℕ)) (x : HeardLine) (k : EventKind) (for_epsv : Bool) (hs : List HeardLine) (rest : List ℕ) (y : Extra)
+abbrev pub taken : (g : Ground) (state : ControlSession) (edge edge1 : EdgeView) (desk desk1 : DeskView) (sent : Option (List ℕ)) (x : HeardLine) (k : EventKind) (for_epsv : Bool) (hs : List HeardLine) (rest : List ℕ) (y : Extra)
     (s : Standing LineDue g state edge desk sent hs (x.line ++ rest)) →
-    IsHearing state x → x.extra ≡ y → GivesMore g (history g (turns_of s.parted.parts)) x.line y k → for_epsv ≡ is_epsv_line y → IsTaken g state edge desk sent x k for_epsv hs rest
-taken g state edge desk sent x k for_epsv hs rest y s hearing says gives epsv =
-    record { stands = s; hearing = hearing; gives = subst (λ (e : Extra). GivesMore g (history g (turns_of s.parted.parts)) x.line e k) (sym says) gives; epsv = ap is_epsv_line says ∙ sym epsv }
+    IsHearing state x → x.extra ≡ y → for_epsv ≡ is_epsv_line y →
+    GivesMore g (history g (turns_of s.parted.parts)) x.line y k × Asking g state edge1 desk1 sent (turns_of s.parted.parts) (due_pieces g s.parted.parts) k →
+    IsTaken g state edge edge1 desk desk1 sent x k for_epsv hs rest
+taken g state edge edge1 desk desk1 sent x k for_epsv hs rest y s hearing says epsv asked = record {
+  stands = s;
+  hearing = hearing;
+  gives = subst (λ (e : Extra). GivesMore g (history g (turns_of s.parted.parts)) x.line e k) (sym says) asked.0;
+  asking = asked.1;
+  epsv = ap is_epsv_line says ∙ sym epsv;
+}
 
 -- its turn is one part more
-abbrev heard-parted : {state : ControlSession} {edge : EdgeView} {desk : DeskView} {sent : Option (List ℕ)} {for_epsv : Bool} (g : Ground) (x : HeardLine) (k : EventKind) (hs : List HeardLine) (rest : List ℕ)
+abbrev heard-parted : {state : ControlSession} {edge edge1 : EdgeView} {desk desk1 : DeskView} {sent : Option (List ℕ)} {for_epsv : Bool} (g : Ground) (x : HeardLine) (k : EventKind) (hs : List HeardLine) (rest : List ℕ)
     (earlier : List (ℕ × Reply)) (e : Entry) →
-    IsTaken g state edge desk sent x k for_epsv hs rest → e.event.kind ≡ k → e.answer ≡ answer.None → PartsBefore g (x ∷ hs) rest
+    IsTaken g state edge edge1 desk desk1 sent x k for_epsv hs rest → e.event.kind ≡ k → e.answer ≡ answer.None → PartsBefore g (x ∷ hs) rest
 heard-parted g x k hs rest earlier e t is answer =
     let s = t.stands in
     parted-more g (Some x) (turn_of (ALine x.line) earlier e) hs rest s.parted
     (heard-turn g _ (turns_of s.parted.parts) x k earlier e s.speaking.known s.stands t.hearing is t.gives) answer (λ h. cc)
 
 -- it was answered, and what is due is this
-heard-standing : {state0 : ControlSession} {edge0 : EdgeView} {desk0 : DeskView} {sent0 : Option (List ℕ)} {for_epsv : Bool} (g : Ground) (state : ControlSession) (edge : EdgeView) (desk : DeskView) (sent sent1 : Option (List ℕ))
+heard-standing : {state0 : ControlSession} {edge0 edge1 : EdgeView} {desk0 desk1 : DeskView} {sent0 : Option (List ℕ)} {for_epsv : Bool} (g : Ground) (state : ControlSession) (edge : EdgeView) (desk : DeskView) (sent sent1 : Option (List ℕ))
     (new : Due) (x : HeardLine) (k : EventKind) (d : Decision) (hs : List HeardLine) (rest : List ℕ)
-    (t : IsTaken g state0 edge0 desk0 sent0 x k for_epsv hs rest)
+    (t : IsTaken g state0 edge0 edge1 desk0 desk1 sent0 x k for_epsv hs rest)
     (spoken : Spoken g state edge desk sent (turns_of t.stands.parted.parts) (due_pieces g t.stands.parted.parts) (ALine x.line) k d for_epsv) →
     Speaking g state edge desk sent1 (turn_of (ALine x.line) spoken.earlier spoken.entry ∷ turns_of t.stands.parted.parts)
     (with_spoken (Some x) (is_end spoken.entry.decision) (due_pieces g t.stands.parted.parts ++ pieces_for g for_epsv (turn_of (ALine x.line) spoken.earlier spoken.entry))) →
@@ -165,9 +169,9 @@ heard-standing g state edge desk sent sent1 new x k d hs rest t spoken speaking 
     }
 
 -- the session ended with it
-pub heard-ended : {state0 : ControlSession} {edge0 : EdgeView} {desk0 : DeskView} {sent0 : Option (List ℕ)} {for_epsv : Bool} (g : Ground) (state : ControlSession) (edge : EdgeView) (desk : DeskView) (sent : Option (List ℕ))
+pub heard-ended : {state0 : ControlSession} {edge0 edge1 : EdgeView} {desk0 desk1 : DeskView} {sent0 : Option (List ℕ)} {for_epsv : Bool} (g : Ground) (state : ControlSession) (edge : EdgeView) (desk : DeskView) (sent : Option (List ℕ))
     (x : HeardLine) (k : EventKind) (d : Decision) (hs : List HeardLine) (rest : List ℕ)
-    (t : IsTaken g state0 edge0 desk0 sent0 x k for_epsv hs rest) →
+    (t : IsTaken g state0 edge0 edge1 desk0 desk1 sent0 x k for_epsv hs rest) →
     Spoken g state edge desk sent (turns_of t.stands.parted.parts) (due_pieces g t.stands.parted.parts) (ALine x.line) k d for_epsv →
     is_end d ≡ true →
     Standing NothingDue g state edge desk sent (x ∷ hs) rest
@@ -177,9 +181,9 @@ heard-ended g state edge desk sent x k d hs rest t spoken over =
     (ap (λ (b : Bool). cond b NothingDue (due_behind (parsed x.line) d)) over)
 
 -- it goes on, and what is said on the line was said
-pub heard-said : {state0 : ControlSession} {edge0 : EdgeView} {desk0 : DeskView} {sent0 : Option (List ℕ)} {for_epsv : Bool} (g : Ground) (state : ControlSession) (edge : EdgeView) (desk : DeskView) (sent sent1 : Option (List ℕ))
+pub heard-said : {state0 : ControlSession} {edge0 edge1 : EdgeView} {desk0 desk1 : DeskView} {sent0 : Option (List ℕ)} {for_epsv : Bool} (g : Ground) (state : ControlSession) (edge : EdgeView) (desk : DeskView) (sent sent1 : Option (List ℕ))
     (x : HeardLine) (k : EventKind) (d : Decision) (hs : List HeardLine) (rest : List ℕ)
-    (t : IsTaken g state0 edge0 desk0 sent0 x k for_epsv hs rest) →
+    (t : IsTaken g state0 edge0 edge1 desk0 desk1 sent0 x k for_epsv hs rest) →
     Spoken g state edge desk sent (turns_of t.stands.parted.parts) (due_pieces g t.stands.parted.parts) (ALine x.line) k d for_epsv →
     is_end d ≡ false →
     Writes sent sent1 (lines_said x.extra) →
@@ -198,12 +202,12 @@ front-pieces : (g : Ground) (state : ControlSession) (edge : EdgeView) (desk : D
     SaysPieces g.start.sent sent1 g.start.edge.paused edge.paused (greeting_of g) more →
     Front g state edge desk sent1 ts more
 front-pieces g state edge desk sent sent1 ts pieces more f says =
-    record { session = f.session; over = f.over; options = f.options; seen = f.seen; kept = f.kept; refused = f.refused; vouched = f.vouched; share = f.share; written = says }
+    record { session = f.session; options = f.options; seen = f.seen; after = f.after; written = says }
 
 -- the turn of a line that was heard was cut short
-cut-heard : {state0 : ControlSession} {edge0 : EdgeView} {desk0 : DeskView} {sent0 : Option (List ℕ)} {for_epsv : Bool} (g : Ground) (state : ControlSession) (edge : EdgeView) (desk : DeskView) (sent sent1 : Option (List ℕ))
+cut-heard : {state0 : ControlSession} {edge0 edge1 : EdgeView} {desk0 desk1 : DeskView} {sent0 : Option (List ℕ)} {for_epsv : Bool} (g : Ground) (state : ControlSession) (edge : EdgeView) (desk : DeskView) (sent sent1 : Option (List ℕ))
     (x : HeardLine) (k : EventKind) (hs : List HeardLine) (rest : List ℕ) (earlier : List (ℕ × Reply)) (e : Entry) (pieces : Pieces)
-    (t : IsTaken g state0 edge0 desk0 sent0 x k for_epsv hs rest) →
+    (t : IsTaken g state0 edge0 edge1 desk0 desk1 sent0 x k for_epsv hs rest) →
     e.event.kind ≡ k → e.answer ≡ answer.None →
     Front g state edge desk sent (turn_of (ALine x.line) earlier e ∷ turns_of t.stands.parted.parts) pieces →
     SaysPieces g.start.sent sent1 g.start.edge.paused edge.paused (greeting_of g)
@@ -220,9 +224,9 @@ cut-heard g state edge desk sent sent1 x k hs rest earlier e pieces t is answer 
     }
 
 -- it was cut short, or did not come
-pub heard-cut : {state0 : ControlSession} {edge0 : EdgeView} {desk0 : DeskView} {sent0 : Option (List ℕ)} {for_epsv : Bool} (g : Ground) (state : ControlSession) (edge : EdgeView) (desk : DeskView) (sent : Option (List ℕ))
+pub heard-cut : {state0 : ControlSession} {edge0 edge1 : EdgeView} {desk0 desk1 : DeskView} {sent0 : Option (List ℕ)} {for_epsv : Bool} (g : Ground) (state : ControlSession) (edge : EdgeView) (desk : DeskView) (sent : Option (List ℕ))
     (x : HeardLine) (k : EventKind) (hs : List HeardLine) (rest : List ℕ)
-    (t : IsTaken g state0 edge0 desk0 sent0 x k for_epsv hs rest) →
+    (t : IsTaken g state0 edge0 edge1 desk0 desk1 sent0 x k for_epsv hs rest) →
     Halted g state edge desk sent (turns_of t.stands.parted.parts) (due_pieces g t.stands.parted.parts) (ALine x.line) k for_epsv →
     IsCut g state edge desk sent hs ⊎ IsCut g state edge desk sent (x ∷ hs)
 heard-cut g state edge desk sent x k hs rest t (inl halted) = inl (record { rest = x.line ++ rest; parted = t.stands.parted; front = halted.0 })
@@ -232,9 +236,9 @@ heard-cut g state edge desk sent x k hs rest t (inr heard) =
     (longer-more x (is_end heard.entry.decision) g.start.sent sent g.start.edge.paused edge.paused (greeting_of g) _ front.written))
 
 -- it was answered, and of what is said on the line a part was said
-pub heard-part : {state0 : ControlSession} {edge0 : EdgeView} {desk0 : DeskView} {sent0 : Option (List ℕ)} {for_epsv : Bool} (g : Ground) (state : ControlSession) (edge : EdgeView) (desk : DeskView) (sent sent1 : Option (List ℕ))
+pub heard-part : {state0 : ControlSession} {edge0 edge1 : EdgeView} {desk0 desk1 : DeskView} {sent0 : Option (List ℕ)} {for_epsv : Bool} (g : Ground) (state : ControlSession) (edge : EdgeView) (desk : DeskView) (sent sent1 : Option (List ℕ))
     (x : HeardLine) (k : EventKind) (d : Decision) (hs : List HeardLine) (rest : List ℕ)
-    (t : IsTaken g state0 edge0 desk0 sent0 x k for_epsv hs rest) →
+    (t : IsTaken g state0 edge0 edge1 desk0 desk1 sent0 x k for_epsv hs rest) →
     Spoken g state edge desk sent (turns_of t.stands.parted.parts) (due_pieces g t.stands.parted.parts) (ALine x.line) k d for_epsv →
     is_end d ≡ false →
     WritesFront sent sent1 (lines_said x.extra) →

@@ -6,8 +6,6 @@ mod HeardLemmas
 mod EndLemmas
 mod ResultLemmas
 mod ControlLemmas
-mod Written
-mod DelayLemmas
 mod PlainLemmas
 mod MergeLemmas
 mod SessionLemmas

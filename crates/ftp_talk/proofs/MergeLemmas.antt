@@ -1,16 +1,14 @@
 -- What is said on lines stands between the replies.
-use Rattle.std.proofs.Common.{◌≡◌, ℕ, Bool, true, false, List, [], ◌∷◌, ◌++◌, Option, Some, None, refl, sym, ap, subst, ◌∙◌, inl, inr}
+use Rattle.std.proofs.Common.{◌≡◌, Bool, true, false, List, [], ◌∷◌, ◌++◌, Option, Some, None, refl, sym, ap, subst, ◌∙◌, inl, inr}
 use Rattle.std.proofs.lemmas.List.{append-nil}
 use Rattle.ftp_extras.specs.declared.extra.Extra.{Extra}
 use Rattle.ftp_extras.specs.declared.extra.Extra.TheVariants as extra
 use Rattle.ftp_talk.specs.ExtendedLaws.{IsMerged, said_on_lines, replies_in_form, HasNoEpsv, SaysReplies}
 use Rattle.ftp_talk.specs.Ground.{Ground}
 use Rattle.ftp_talk.specs.Parts.{HeardLine, TalkPart, turns_of, with_said, with_spoken, is_epsv_at, pieces_for, turn_pieces, due_pieces}
-use Rattle.ftp_talk.specs.Pieces.{Pieces, pieces_of}
-use Rattle.ftp_talk.specs.Saying.{said}
+use Rattle.ftp_talk.specs.Pieces.{Pieces}
 use Rattle.ftp_talk.specs.Talk.{due_replies}
 use Rattle.ftp_talk.specs.Turns.{is_end}
-use Rattle.ftp_talk.proofs.PieceLemmas.{replies-pieces}
 
 -- pieces of one list alone, and of the other
 merged-first : (c : Pieces) → IsMerged c [] c
@@ -61,13 +59,12 @@ says-between g (p ∷ ps) =
     (merged-last replies (said_on_lines ps) pieces more said1)
 
 -- without an EPSV the replies are those of a talk
-in-form-plain : (g : Ground) (ps : List TalkPart) → HasNoEpsv ps → replies_in_form g ps ≡ pieces_of (due_replies g (turns_of ps))
+in-form-plain : (g : Ground) (ps : List TalkPart) → HasNoEpsv ps → replies_in_form g ps ≡ due_replies g (turns_of ps)
 in-form-plain g [] none = refl
 in-form-plain g (p ∷ ps) none =
     let t = p.turn in
     ap (λ (b : Bool). replies_in_form g ps ++ pieces_for g b t) none.0
     ∙ ap (λ (x : Pieces). x ++ turn_pieces g t) (in-form-plain g ps none.1)
-    ∙ sym (replies-pieces (due_replies g (turns_of ps)) (said g.session t.earlier t.entry.actions))
 
 -- the law
 pub says-merged : SaysReplies

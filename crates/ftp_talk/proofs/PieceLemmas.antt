@@ -1,15 +1,28 @@
 -- What is said in pieces.
-use Rattle.std.proofs.Common.{◌≡◌, ℕ, ◌+◌, ◌≤◌, List, [], ◌∷◌, ◌++◌, Option, refl, sym, ap, subst, ◌∙◌, append_assoc, arith}
-use Rattle.std.proofs.lemmas.List.{append-nil}
+use Rattle.std.proofs.Common.{◌≡◌, ℕ, ◌+◌, ◌-◌, ◌<◌, ◌≤◌, List, [], ◌∷◌, ◌++◌, length, take, drop, get_or, Option, Some, None, refl, sym, ap, subst, ◌∙◌, append_assoc, arith}
+use Rattle.std.specs.Prelude.{IfSome, Result, Ok, Err, OnOk}
+use Rattle.std.proofs.lemmas.List.{append-nil, take-append-drop, take_more}
 use Rattle.std.proofs.lemmas.List.Concat.{flat_map-append}
+use Rattle.std.proofs.lemmas.List.Elements.{filter_map-append}
 use Rattle.ftp_base.specs.declared.reply.Reply.{Reply}
+use Rattle.ftp_base.specs.Edge.{Feed, EdgeView, Takes}
 use Rattle.ftp_base.specs.Outside.{Writes}
 use Rattle.ftp_base.specs.Reply.{encoding}
+use Rattle.ftp_events.specs.declared.action.Action.{Action}
+use Rattle.ftp_events.specs.Right.{reply_to}
 use Rattle.ftp_control.specs.Writing.{WritesFront}
-use Rattle.ftp_talk.specs.Pieces.{Pieces, pieces_of, piece_text, piece_delays, SaysPieces}
-use Rattle.ftp_talk.specs.Saying.{encodings, delays, IsPaused, SaysFront}
-use Rattle.ftp_talk.proofs.DelayLemmas.{paused-none, paused-more}
-use Rattle.ftp_control.proofs.WritingLemmas.{front-all, front-more, writes-more}
+use Rattle.ftp_shared.specs.Outbox.{replies_in}
+use Rattle.ftp_talk.specs.Pieces.{Pieces, pieces_of, piece_text, piece_delays, SaysPieces, Says}
+use Rattle.ftp_talk.specs.Saying.{IsPaused}
+use Rattle.ftp_control.proofs.WritingLemmas.{front-all, front-more, front-whole, writes-more}
+
+-- ---- what is paused
+
+pub paused-none : (old new : ℕ) → new ≡ old → IsPaused 0 old new
+paused-none old new is = λ lt. omega (arith, is)
+
+pub paused-more : (m n old mid new : ℕ) → IsPaused m old mid → IsPaused n mid new → IsPaused (m + n) old new
+paused-more m n old mid new first second = λ lt. omega (arith, second lt, first (omega (arith, lt, second lt)))
 
 -- ---- lists of pieces
 
@@ -24,15 +37,6 @@ text-pieces a b = flat_map-append (λ p. p.1) a b
 
 text-behind : (w : List ℕ) (a b : Pieces) → (w ++ piece_text a) ++ piece_text b ≡ w ++ piece_text (a ++ b)
 text-behind w a b = append_assoc w (piece_text a) (piece_text b) ∙ ap (λ (x : List ℕ). w ++ x) (sym (text-pieces a b))
-
--- the pieces of replies are as long as they are, and say the same
-pub text-replies : (rs : List (ℕ × Reply)) → piece_text (pieces_of rs) ≡ encodings rs
-text-replies [] = refl
-text-replies (r ∷ rs) = ap (λ (x : List ℕ). encoding r.1 ++ x) (text-replies rs)
-
-pub delays-replies : (rs : List (ℕ × Reply)) → piece_delays (pieces_of rs) ≡ delays rs
-delays-replies [] = refl
-delays-replies (r ∷ rs) = ap (λ (n : ℕ). r.0 + n) (delays-replies rs)
 
 pub replies-pieces : (a b : List (ℕ × Reply)) → pieces_of (a ++ b) ≡ pieces_of a ++ pieces_of b
 replies-pieces [] b = refl
@@ -52,20 +56,6 @@ pub paused-pieces : (old mid mid1 new : ℕ) (a b : Pieces) → IsPaused (piece_
 paused-pieces old mid mid1 new a b first same second =
     subst (λ (n : ℕ). IsPaused n old new) (sym (delays-pieces a b))
     (paused-more (piece_delays a) (piece_delays b) old mid new first (subst (λ (m : ℕ). IsPaused (piece_delays b) m new) same second))
-
--- what is said of replies is said of their pieces
-pub says-replies : (old new : Option (List ℕ)) (before after : ℕ) (w : List ℕ) (rs : List (ℕ × Reply)) → SaysFront old new before after w rs → SaysPieces old new before after w (pieces_of rs)
-says-replies old new before after w rs h =
-    record {
-      begun = pieces_of h.begun;
-      left = pieces_of h.left;
-      parts = sym (replies-pieces h.begun h.left) ∙ ap pieces_of h.parts;
-      written = subst (λ (x : List ℕ). WritesFront old new (w ++ x)) (sym (text-replies h.begun)) h.written;
-      millis = h.millis;
-      least = omega (arith, h.least, delays-replies h.begun);
-      most = omega (arith, h.most, delays-replies rs);
-      paused = h.paused;
-    }
 
 -- pieces were said, and then a part of others
 pub pieces-behind : (old now new : Option (List ℕ)) (before mid after : ℕ) (w : List ℕ) (a b : Pieces) →
@@ -147,38 +137,116 @@ piece-front old new at bytes wrote =
       paused = paused-none at at refl;
     }
 
--- ---- replies, and one piece behind them
+-- ---- a text that waits
 
-replies-alone : (a : List (ℕ × Reply)) → a ++ [] ≡ a
-replies-alone a = append-nil a
+-- one part and then another
+pub says-more : (old now new : Option (List ℕ)) (before mid after : ℕ) (w b c : List ℕ) (pieces more : Pieces) →
+    Says old now before mid w b pieces → Says now new mid after b c more → Says old new before after w c (pieces ++ more)
+says-more old now new before mid after w b c pieces more first second =
+    record {
+      gone = first.gone ++ second.gone;
+      written = writes-more old now new first.gone second.gone first.written second.written;
+      text = append_assoc first.gone second.gone c ∙ ap (λ (x : List ℕ). first.gone ++ x) second.text ∙ sym (append_assoc first.gone b (piece_text more))
+          ∙ ap (λ (x : List ℕ). x ++ piece_text more) first.text ∙ text-behind w pieces more;
+      paused = paused-pieces before mid mid after pieces more first.paused refl second.paused;
+    }
 
--- all was said
-pub wrote-last : (old mid new : Option (List ℕ)) (a : List (ℕ × Reply)) (line : List ℕ) →
-    Writes old mid (encodings (a ++ [])) → Writes mid new line → Writes old new (piece_text (pieces_of a ++ (0, line) ∷ []))
-wrote-last old mid new a line first second =
-    let text : encodings (a ++ []) ≡ piece_text (pieces_of a) = ap encodings (replies-alone a) ∙ sym (text-replies a) in
-    wrote-pieces old mid new [] (pieces_of a) ((0, line) ∷ []) (subst (Writes old mid) text first) (subst (Writes mid new) (sym (text-one line)) second)
+-- what waits is sent
+pub says-flushed : (old now new : Option (List ℕ)) (before mid : ℕ) (w b : List ℕ) (pieces : Pieces) →
+    Says old now before mid w b pieces → Writes now new b → Writes old new (w ++ piece_text pieces)
+says-flushed old now new before mid w b pieces first second = subst (Writes old new) first.text (writes-more old now new first.gone b first.written second)
 
-pub paused-last : (before after : ℕ) (a : List (ℕ × Reply)) (line : List ℕ) →
-    IsPaused (delays (a ++ [])) before after → IsPaused (piece_delays (pieces_of a ++ (0, line) ∷ [])) before after
-paused-last before after a line paused =
-    let all : delays (a ++ []) ≡ piece_delays (pieces_of a ++ (0, line) ∷ []) =
-    omega (arith, ap delays (replies-alone a), delays-replies a, delays-pieces (pieces_of a) ((0, line) ∷ [])) in
-    subst (λ (n : ℕ). IsPaused n before after) all paused
+-- a part of what waits, and of what comes behind it, is said
+pub says-behind : (old now new : Option (List ℕ)) (before mid after : ℕ) (w b : List ℕ) (pieces more : Pieces) →
+    Says old now before mid w b pieces → SaysPieces now new mid after b more → SaysPieces old new before after w (pieces ++ more)
+says-behind old now new before mid after w b pieces more first h =
+    record {
+      begun = pieces ++ h.begun;
+      left = h.left;
+      parts = append_assoc pieces h.begun h.left ∙ ap (λ (x : Pieces). pieces ++ x) h.parts;
+      written =
+          subst (WritesFront old new)
+          (sym (append_assoc first.gone b (piece_text h.begun)) ∙ ap (λ (x : List ℕ). x ++ piece_text h.begun) first.text ∙ text-behind w pieces h.begun)
+          (front-more old now new first.gone (b ++ piece_text h.begun) first.written h.written);
+      millis = piece_delays pieces + h.millis;
+      least = omega (arith, h.least, delays-pieces pieces h.begun);
+      most = omega (arith, h.most, delays-pieces pieces more);
+      paused = paused-more (piece_delays pieces) h.millis before mid after first.paused h.paused;
+    }
 
--- a part of the replies was said
-pub says-first : (old new : Option (List ℕ)) (before after : ℕ) (a : List (ℕ × Reply)) (line : List ℕ) →
-    SaysFront old new before after [] (a ++ []) → SaysPieces old new before after [] (pieces_of a ++ (0, line) ∷ [])
-says-first old new before after a line h =
-    pieces-longer old new before after [] (pieces_of a) ((0, line) ∷ [])
-    (subst (λ (rs : List (ℕ × Reply)). SaysPieces old new before after [] (pieces_of rs)) (replies-alone a) (says-replies old new before after [] (a ++ []) h))
+-- a part of what waits is sent
+pub says-cut : (old now new : Option (List ℕ)) (before mid : ℕ) (w b : List ℕ) (pieces : Pieces) →
+    Says old now before mid w b pieces → WritesFront now new b → SaysPieces old new before mid w pieces
+says-cut old now new before mid w b pieces first second =
+    subst (SaysPieces old new before mid w) (append-nil pieces)
+    (says-behind old now new before mid mid w b pieces [] first (pieces-none now new mid mid b [] second refl))
 
--- the replies were said, and a part of the piece behind them
-pub says-last : (old mid new : Option (List ℕ)) (before after : ℕ) (a : List (ℕ × Reply)) (line : List ℕ) →
-    Writes old mid (encodings (a ++ [])) → IsPaused (delays (a ++ [])) before after → WritesFront mid new line →
-    SaysPieces old new before after [] (pieces_of a ++ (0, line) ∷ [])
-says-last old mid new before after a line first paused front =
-    let text : encodings (a ++ []) ≡ piece_text (pieces_of a) = ap encodings (replies-alone a) ∙ sym (text-replies a) in
-    let millis : delays (a ++ []) ≡ piece_delays (pieces_of a) = ap delays (replies-alone a) ∙ sym (delays-replies a) in
-    pieces-behind old mid new before after after [] (pieces_of a) ((0, line) ∷ []) (subst (Writes old mid) text first)
-    (subst (λ (n : ℕ). IsPaused n before after) millis paused) (piece-front mid new after line front)
+-- a delay was paused, and then its bytes wait; or they do not
+pub says-paused : (old new : Option (List ℕ)) (before after delay : ℕ) (w b bytes : List ℕ) →
+    Says old new before after w b ((delay, []) ∷ []) → Says old new before after w (b ++ bytes) ((delay, bytes) ∷ [])
+says-paused old new before after delay w b bytes h =
+    record {
+      gone = h.gone;
+      written = h.written;
+      text = sym (append_assoc h.gone b bytes) ∙ ap (λ (x : List ℕ). x ++ bytes) (h.text ∙ append-nil w) ∙ ap (λ (x : List ℕ). w ++ x) (sym (append-nil bytes));
+      paused = h.paused;
+    }
+
+pub says-unsaid : (old new : Option (List ℕ)) (before after delay : ℕ) (w b bytes : List ℕ) →
+    Says old new before after w b ((delay, []) ∷ []) → SaysPieces old new before after w ((delay, bytes) ∷ [])
+says-unsaid old new before after delay w b bytes h =
+    record {
+      begun = [];
+      left = (delay, bytes) ∷ [];
+      parts = refl;
+      written = subst (WritesFront old new) h.text (front-whole old new h.gone b h.written);
+      millis = delay;
+      least = omega arith;
+      most = omega arith;
+      paused = subst (λ (n : ℕ). IsPaused n before after) (omega arith) h.paused;
+    }
+
+-- ---- a loop over what is said
+
+-- the pieces of an element more were said, or wait
+pub says-next : {X : Type 0} (f : List X → Pieces) (xs : List X) (i : ℕ) (d : X) (old now new : Option (List ℕ)) (before mid after : ℕ) (w b c : List ℕ) →
+    ((x y : List X) → f (x ++ y) ≡ f x ++ f y) → i < length xs →
+    Says old now before mid w b (f (take i xs)) → Says now new mid after b c (f (get_or xs i d ∷ [])) → Says old new before after w c (f (take (i + 1) xs))
+says-next f xs i d old now new before mid after w b c parts lt first second =
+    let next = ap f (take_more xs i d lt) ∙ parts (take i xs) (get_or xs i d ∷ []) in
+    subst (Says old new before after w c) (sym next) (says-more old now new before mid after w b c _ _ first second)
+
+-- a part of them was said
+pub says-up-to : {X : Type 0} (f : List X → Pieces) (xs : List X) (i : ℕ) (d : X) (old now new : Option (List ℕ)) (before mid after : ℕ) (w b : List ℕ) →
+    ((x y : List X) → f (x ++ y) ≡ f x ++ f y) → i < length xs →
+    Says old now before mid w b (f (take i xs)) → SaysPieces now new mid after b (f (get_or xs i d ∷ [])) → SaysPieces old new before after w (f xs)
+says-up-to f xs i d old now new before mid after w b parts lt first second =
+    let next = ap f (take_more xs i d lt) ∙ parts (take i xs) (get_or xs i d ∷ []) in
+    let all = sym (parts (take (i + 1) xs) (drop (i + 1) xs)) ∙ ap f (take-append-drop (i + 1) xs) in
+    subst (SaysPieces old new before after w) all
+    (pieces-longer old new before after w (f (take (i + 1) xs)) (f (drop (i + 1) xs))
+    (subst (SaysPieces old new before after w) (sym next) (says-behind old now new before mid after w b _ _ first second)))
+
+-- the pieces of the replies among actions
+pub replies-parts : (s : ℕ) (a b : List Action) → pieces_of (replies_in (a ++ b) s) ≡ pieces_of (replies_in a s) ++ pieces_of (replies_in b s)
+replies-parts s a b = ap pieces_of (filter_map-append (reply_to s) a b) ∙ replies-pieces (replies_in a s) (replies_in b s)
+
+-- ---- the edge
+
+-- two calls that take nothing
+pub takes-on : (old mid new : EdgeView) → Takes (λ f. f) old mid → Takes (λ f. f) mid new → Takes (λ f. f) old new
+takes-on old mid new first second =
+    record {
+      feed = feed old.feed first.feed;
+      meaning = second.meaning ∙ first.meaning;
+      count = omega (arith, first.count, second.count);
+    } where
+      feed : (o : Option Feed) → IfSome o (λ f. mid.feed ≡ Some f) → IfSome o (λ f. new.feed ≡ Some f)
+      feed None h = tt
+      feed (Some f) h = subst (λ (o : Option Feed). IfSome o (λ f. new.feed ≡ Some f)) h second.feed
+
+-- ---- what follows from what is said of a result
+
+pub on_ok : {T E P : Type 0} (r : Result T E) → P → OnOk r P
+on_ok (Ok x) p = p
+on_ok (Err e) p = tt

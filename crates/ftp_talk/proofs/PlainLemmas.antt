@@ -1,17 +1,11 @@
 -- Without extras it is the talk.
-use Rattle.std.proofs.Common.{◌≡◌, ℕ, Bool, true, false, List, [], ◌∷◌, ◌++◌, Option, Some, None, refl, sym, ap, subst, ◌∙◌, arith, inl, inr}
+use Rattle.std.proofs.Common.{◌≡◌, ℕ, Bool, true, false, List, [], ◌∷◌, ◌++◌, Option, Some, None, refl, sym, ap, subst, ◌∙◌, inl, inr}
 use Rattle.std.specs.Prelude.{⊤}
 use Rattle.std.specs.List.{AllByRecursion}
-use Rattle.ftp_base.specs.declared.reply.Reply.{Reply}
 use Rattle.ftp_base.specs.Edge.{EdgeView}
-use Rattle.ftp_base.specs.Outside.{Writes}
-use Rattle.ftp_base.specs.Reply.{encoding}
-use Rattle.ftp_events.specs.declared.entry.Entry.{Entry}
 use Rattle.ftp_events.specs.declared.event.Answer.{Answer}
-use Rattle.ftp_events.specs.declared.event.EventKind.{EventKind}
 use Rattle.ftp_events.specs.declared.event.HubEvent.{HubEvent}
 use Rattle.ftp_control.specs.Line.{parsed}
-use Rattle.ftp_control.specs.Writing.{WritesFront}
 use Rattle.ftp_extras.specs.declared.extra.Extra.{Extra}
 use Rattle.ftp_extras.specs.declared.extra.Extra.TheVariants.{Pass}
 use Rattle.ftp_shared.specs.Desk.{DeskView}
@@ -22,13 +16,11 @@ use Rattle.ftp_talk.specs.Control.{IsServedTo, Serves}
 use Rattle.ftp_talk.specs.ControlWith.{IsServedWith, ServesWith}
 use Rattle.ftp_talk.specs.Extended.{PartsBefore, TalkHeard, TalkFrontHeard, OutcomeWith}
 use Rattle.ftp_talk.specs.Ground.{Step, ALine, Turn, Start, Ground, history}
-use Rattle.ftp_talk.specs.Parts.{HeardLine, TalkPart, turns_of, with_heard, heard_in, MayDoSo, AreAllowed, GivesMore, IsHeard, ComesWith, Parts, with_said, with_spoken, is_epsv_line, is_epsv_at, pieces_for, turn_pieces, due_pieces, pieces_by}
-use Rattle.ftp_talk.specs.Pieces.{Pieces, pieces_of, piece_text, piece_delays, SaysPieces}
-use Rattle.ftp_talk.specs.Saying.{encodings, delays, IsPaused, SaysFront, said}
+use Rattle.ftp_talk.specs.Parts.{HeardLine, TalkPart, turns_of, with_heard, heard_in, MayDoSo, AreAllowed, GivesMore, ComesWith, Parts, with_said, with_spoken, is_epsv_line, is_epsv_at, pieces_for, turn_pieces, due_pieces, pieces_by}
+use Rattle.ftp_talk.specs.Pieces.{Pieces}
 use Rattle.ftp_talk.specs.Speaking.{Outcome}
-use Rattle.ftp_talk.specs.Talk.{Talk, TalkFront, TurnsBefore, due_replies, greeting_of, closed_by}
+use Rattle.ftp_talk.specs.Talk.{Talk, TalkFront, TurnsBefore, ComesToEnd, IsCutShort, due_replies, closed_by}
 use Rattle.ftp_talk.specs.Turns.{Due, LineDue, due, Comes, Turns}
-use Rattle.ftp_talk.proofs.PieceLemmas.{text-replies, delays-replies, replies-pieces}
 
 -- on each line was done what the profile does
 abbrev ArePlain : List HeardLine → Type 0
@@ -73,7 +65,7 @@ epsv-plain None plain = refl
 epsv-plain (Some x) plain = ap is_epsv_line plain
 
 -- what is to be said are the replies
-pieces-plain : (g : Ground) (ps : List TalkPart) → ArePlain (heard_in ps) → due_pieces g ps ≡ pieces_of (due_replies g (turns_of ps))
+pieces-plain : (g : Ground) (ps : List TalkPart) → ArePlain (heard_in ps) → due_pieces g ps ≡ due_replies g (turns_of ps)
 pieces-plain g [] plain = refl
 pieces-plain g (p ∷ ps) plain =
     let t = p.turn in
@@ -81,38 +73,10 @@ pieces-plain g (p ∷ ps) plain =
     more-plain p.heard _ (due_pieces g ps ++ pieces_for g (is_epsv_at p.heard) t) first
     ∙ ap (λ (b : Bool). due_pieces g ps ++ pieces_for g b t) (epsv-plain p.heard first)
     ∙ ap (λ (x : Pieces). x ++ turn_pieces g t) (pieces-plain g ps (plain-rest p.heard (heard_in ps) plain))
-    ∙ sym (replies-pieces (due_replies g (turns_of ps)) (said g.session t.earlier t.entry.actions))
 
-closed-plain : (g : Ground) (close : Option Turn) (ps : List TalkPart) → ArePlain (heard_in ps) → pieces_by g close ps ≡ pieces_of (due_replies g (closed_by close (turns_of ps)))
+closed-plain : (g : Ground) (close : Option Turn) (ps : List TalkPart) → ArePlain (heard_in ps) → pieces_by g close ps ≡ due_replies g (closed_by close (turns_of ps))
 closed-plain g None ps plain = pieces-plain g ps plain
-closed-plain g (Some t) ps plain =
-    ap (λ (x : Pieces). x ++ turn_pieces g t) (pieces-plain g ps plain) ∙ sym (replies-pieces (due_replies g (turns_of ps)) (said g.session t.earlier t.entry.actions))
-
--- a front of the pieces of replies is the pieces of a front
-split-pieces : (begun left : Pieces) (rs : List (ℕ × Reply)) → begun ++ left ≡ pieces_of rs → (b l : List (ℕ × Reply)) × (b ++ l ≡ rs) × (pieces_of b ≡ begun)
-split-pieces [] left rs e = ([], rs, refl, refl)
-split-pieces (p ∷ begun) left [] e = absurd (cc)
-split-pieces (p ∷ begun) left (r ∷ rs) e =
-    let first : (r.0, encoding r.1) ≡ p = cc in
-    let rest : begun ++ left ≡ pieces_of rs = cc in
-    let s = split-pieces begun left rs rest in
-    (r ∷ s.0, s.1, ap (λ (x : List (ℕ × Reply)). r ∷ x) s.2, ap (λ (x : Pieces). (r.0, encoding r.1) ∷ x) s.3 ∙ ap (λ (x : ℕ × List ℕ). x ∷ begun) first)
-
-says-plain : (old new : Option (List ℕ)) (before after : ℕ) (w : List ℕ) (rs : List (ℕ × Reply)) → SaysPieces old new before after w (pieces_of rs) → SaysFront old new before after w rs
-says-plain old new before after w rs h =
-    let s = split-pieces h.begun h.left rs h.parts in
-    let text : piece_text h.begun ≡ encodings s.0 = ap piece_text (sym s.3) ∙ text-replies s.0 in
-    let millis : piece_delays h.begun ≡ delays s.0 = ap piece_delays (sym s.3) ∙ delays-replies s.0 in
-    record {
-      begun = s.0;
-      left = s.1;
-      parts = s.2;
-      written = subst (λ (x : List ℕ). WritesFront old new (w ++ x)) text h.written;
-      millis = h.millis;
-      least = omega (arith, h.least, millis);
-      most = omega (arith, h.most, delays-replies rs);
-      paused = h.paused;
-    }
+closed-plain g (Some t) ps plain = ap (λ (x : Pieces). x ++ turn_pieces g t) (pieces-plain g ps plain)
 
 abbrev turned-plain : (g : Ground) (hs : List HeardLine) (rest : List ℕ) → PartsBefore g hs rest → ArePlain hs → TurnsBefore g rest
 turned-plain g hs rest p plain = record { turns = turns_of p.parts; cut = p.cut; ruled = turns-plain g p.parts p.ruled (subst ArePlain (sym p.heard) plain); long = p.long }
@@ -120,39 +84,13 @@ turned-plain g hs rest p plain = record { turns = turns_of p.parts; cut = p.cut;
 -- the law, of a talk and of one that was cut short
 pub plain-talk : (g : Ground) (edge : EdgeView) (desk : DeskView) (sent : Option (List ℕ)) (hs : List HeardLine) → ArePlain hs → TalkHeard g edge desk sent hs → Talk g edge desk sent
 plain-talk g edge desk sent hs plain t =
-    let all = subst ArePlain (sym t.parted.heard) plain in
-    let replies = due_replies g (closed_by t.close (turns_of t.parted.parts)) in
-    let same = closed-plain g t.close t.parted.parts all in
-    record {
-      rest = t.rest;
-      turned = turned-plain g hs t.rest t.parted plain;
-      close = t.close;
-      ended = t.ended;
-      seen = t.seen;
-      grew = t.grew;
-      vouched = t.vouched;
-      last = t.last;
-      share = t.share;
-      written = subst (λ (x : List ℕ). Writes g.start.sent sent (greeting_of g ++ x)) (ap piece_text same ∙ text-replies replies) t.written;
-      paused = subst (λ (n : ℕ). IsPaused n g.start.edge.paused edge.paused) (ap piece_delays same ∙ delays-replies replies) t.paused;
-    }
+    let same = closed-plain g t.close t.parted.parts (subst ArePlain (sym t.parted.heard) plain) in
+    record { rest = t.rest; turned = turned-plain g hs t.rest t.parted plain; close = t.close; ends = subst (ComesToEnd g edge desk sent (turns_of t.parted.parts) t.rest t.close) same t.ends }
 
 pub plain-front : (g : Ground) (edge : EdgeView) (desk : DeskView) (sent : Option (List ℕ)) (hs : List HeardLine) → ArePlain hs → TalkFrontHeard g edge desk sent hs → TalkFront g edge desk sent
 plain-front g edge desk sent hs plain t =
-    let all = subst ArePlain (sym t.parted.heard) plain in
-    let replies = due_replies g (closed_by t.close (turns_of t.parted.parts)) in
-    record {
-      rest = t.rest;
-      turned = turned-plain g hs t.rest t.parted plain;
-      close = t.close;
-      closing = t.closing;
-      seen = t.seen;
-      grew = t.grew;
-      vouched = t.vouched;
-      share = t.share;
-      written = says-plain g.start.sent sent g.start.edge.paused edge.paused (greeting_of g) replies
-          (subst (SaysPieces g.start.sent sent g.start.edge.paused edge.paused (greeting_of g)) (closed-plain g t.close t.parted.parts all) t.written);
-    }
+    let same = closed-plain g t.close t.parted.parts (subst ArePlain (sym t.parted.heard) plain) in
+    record { rest = t.rest; turned = turned-plain g hs t.rest t.parted plain; close = t.close; ends = subst (IsCutShort g edge desk sent (turns_of t.parted.parts) t.close) same t.ends }
 
 -- ---- where nothing else may be done
 

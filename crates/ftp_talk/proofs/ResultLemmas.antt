@@ -1,6 +1,6 @@
 -- What follows from what is said of a result.
 use Rattle.std.proofs.Common.{◌≡◌, ◌≢◌, ℕ, ◌-◌, ◌^◌, ◌≤◌, ◌⊎◌, Bool, true, false, Option, Some, None, refl, arith, inl, inr}
-use Rattle.std.specs.Prelude.{IfSome, IfNone}
+use Rattle.std.specs.Prelude.{IfSome, IfNone, Result, Ok, Err, IfOk}
 use Rattle.std.proofs.lemmas.Bool.{cases_lt}
 use Rattle.ftp_base.specs.Outside.{HasRisen}
 
@@ -11,6 +11,10 @@ if_none-then (Some x) f p = tt
 pub if_some-then : {T : Type 0} {P Q : T → Type 0} (o : Option T) → ((x : T) → P x → Q x) → IfSome o P → IfSome o Q
 if_some-then None f p = tt
 if_some-then (Some x) f p = f x p
+
+pub if_ok-then : {T E : Type 0} {P Q : T → Type 0} (r : Result T E) → ((x : T) → P x → Q x) → IfOk r P → IfOk r Q
+if_ok-then (Ok x) f p = f x p
+if_ok-then (Err e) f p = tt
 
 -- a control that waited cannot be read at any time
 pub waits_so : {T : Type 0} (b : Bool) (r x : T) → r ≡ x → (b ≡ true → r ≢ x) → b ≡ false

@@ -1,6 +1,7 @@
 -- A step and its entry.
-use Rattle.std.proofs.Common.{◌≡◌, ℕ, Bool, true, false, cond, List, [], ◌∷◌, ◌++◌, length, Option, Some, None, refl, sym, ap, subst, ◌∙◌, append_assoc, arith, inl, inr}
-use Rattle.std.specs.Prelude.{unwrap_or, IfSome, Result, Ok, Err, IsErr}
+use Rattle.std.proofs.Common.{◌≡◌, ℕ, Bool, true, false, cond, List, [], ◌∷◌, ◌++◌, Option, Some, None, refl, sym, ap, subst, ◌∙◌, append_assoc, arith, inl, inr}
+use Rattle.std.specs.Prelude.{unwrap_or, IfOk, IfSome, Result, Ok, Err, IsErr}
+use Rattle.std.specs.declared.alloc.AllocError.{AllocError}
 use Rattle.ftp_base.specs.declared.message.ControlChanMsg.{ControlChanMsg}
 use Rattle.ftp_base.specs.declared.reply.Reply.{Reply}
 use Rattle.ftp_base.specs.declared.login.AuthAnswer.{AuthAnswer}
@@ -35,9 +36,10 @@ use Rattle.ftp_talk.specs.Pieces.{Pieces, piece_delays}
 use Rattle.ftp_talk.specs.Saying.{IsPaused}
 use Rattle.ftp_talk.specs.Extended.{PartsBefore}
 use Rattle.ftp_talk.specs.Talk.{IsInput, is_long}
-use Rattle.ftp_talk.specs.Serving.{is_out, next_of, behind_refusal}
-use Rattle.ftp_talk.specs.Speaking.{Knows, IsGround, SameEdge, Speaking, Asked, Asking, IsSpoken, Standing, IsCut, MayStep, StandsBehind, due_at, turn_of}
-use Rattle.ftp_talk.proofs.TalkLemmas.{counted-more, kept-same, rises-same, front-same}
+use Rattle.ftp_talk.specs.Serving.{is_out, next_of}
+use Rattle.ftp_talk.specs.Speaking.{Knows, IsGround, SameEdge, Speaking, Asked, Asking, IsSpoken, Standing, IsCut, MayStep, MayRefuse, StandsBehind, due_at, turn_of}
+use Rattle.ftp_talk.proofs.ResultLemmas.{if_ok-then}
+use Rattle.ftp_talk.proofs.TalkLemmas.{after-same, counted-more, front-same}
 
 -- what is there is what is told
 pub told_self : {T : Type 0} {P : T → Type 0} (o : Option T) → ((x : T) → o ≡ Some x → P x) → IfSome o P
@@ -103,12 +105,8 @@ asking-from g state edge edge1 desk desk1 sent ts pieces k s named drawn missing
       missing = counted-more (all_missing g ts) (missing_in g (history g ts) k) g.start.edge.faults edge.faults edge1.faults s.seen.edge missing edges.count;
       failed = counted-more (all_failed ts) (failed_in k) g.start.desk.faults desk.faults desk1.faults s.seen.storage failed desks.count;
       known = s.known;
-      over = s.over;
       ground = ground-same g (history g ts) edge edge1 desk desk1 s.ground edges desks;
-      kept = kept-same g desk desk1 ts s.kept desks;
-      vouched = s.vouched;
-      share = rises-same (length (history g ts)) g.start.desk.share desk.share desk1.share s.share desks.share;
-      refused = omega (arith, s.refused, desks.refused);
+      after = after-same g state desk desk1 ts s.after desks;
       written = s.written;
       paused = subst (IsPaused (piece_delays pieces) g.start.edge.paused) (sym edges.paused) s.paused;
     }
@@ -211,13 +209,6 @@ pub out-due : (line : List ℕ) (p : _) (d : Decision) → parsed line ≡ Ok (c
 out-due line p decision.PassOut same h = ap (λ (r : Result Command LineError). due_behind r decision.PassOut) same
 out-due line p _ same h = cc
 
--- behind a line that is refused a line is due, or the end
-pub refused-due : (e : LineError) (d : Decision) → due_behind (Err e) d ≡ due_at (behind_refusal e)
-refused-due error.Utf8 d = refl
-refused-due error.InvalidEol d = refl
-refused-due error.InvalidCommand d = refl
-refused-due error.OutOfMemory d = refl
-
 -- what is due behind a line, by what was read of it
 pub line-due : (line : List ℕ) (r : Result Command LineError) (d : Decision) (on : Next) → parsed line ≡ r → due_behind r d ≡ due_at on → due_by (ALine line) d ≡ due_at (next_of d on)
 line-due line r d on same e = next-due d (due_behind (parsed line) d) on (ap (λ (x : Result Command LineError). due_behind x d) same ∙ e)
@@ -251,7 +242,7 @@ step-parted g state edge desk sent old step k hs rest earlier e s may is answer 
     parted-more g None (turn_of step earlier e) hs rest s.parted (comes, may.unheard) answer may.long
 
 -- it was taken behind parts, or cut short
-pub step-served : (g : Ground) (state0 state : ControlSession) (edge0 edge : EdgeView) (desk0 desk : DeskView) (sent0 sent : Option (List ℕ))
+step-served : (g : Ground) (state0 state : ControlSession) (edge0 edge : EdgeView) (desk0 desk : DeskView) (sent0 sent : Option (List ℕ))
     (old : Due) (step : Step) (k : EventKind) (r : Result Decision Halt) (hs : List HeardLine) (rest : List ℕ)
     (s : Standing old g state0 edge0 desk0 sent0 hs (line_of step ++ rest)) →
     MayStep g state0 old step k rest →
@@ -271,10 +262,23 @@ step-served g state0 state edge0 edge desk0 desk sent0 sent old step k (Err e) h
 }
 
 -- nothing is asked for it
-pub asking-step : (g : Ground) (state : ControlSession) (edge : EdgeView) (desk : DeskView) (sent : Option (List ℕ)) (ts : List Turn) (pieces : Pieces) (old : Due) (step : Step) (k : EventKind) (rest : List ℕ) →
+asking-step : (g : Ground) (state : ControlSession) (edge : EdgeView) (desk : DeskView) (sent : Option (List ℕ)) (ts : List Turn) (pieces : Pieces) (old : Due) (step : Step) (k : EventKind) (rest : List ℕ) →
     Speaking g state edge desk sent ts pieces → MayStep g state old step k rest → Asking g state edge desk sent ts pieces k
 asking-step g state edge desk sent ts pieces old step k rest s may =
     asking-plain g state edge desk sent ts pieces k s (step-plain g (history g ts) old step k (may.comes (history g ts) s.known) may.unheard)
+
+-- so where its event was submitted, and what is due on it said, a part more stands, or it was cut short
+pub step-taken : (g : Ground) (vouches : Bool) (state0 state : ControlSession) (edge0 edge : EdgeView) (desk0 desk : DeskView) (sent0 sent : Option (List ℕ))
+    (old : Due) (step : Step) (k : EventKind) (r : Result Decision Halt) (hs : List HeardLine) (rest : List ℕ) →
+    ((q : Ground) (ts : List Turn) (pieces : Pieces) (step : Step) → q.start.vouches ≡ vouches →
+    Asking q state0 edge0 desk0 sent0 ts pieces k → IsSpoken r q state edge desk sent ts pieces step k false) →
+    g.start.vouches ≡ vouches → Standing old g state0 edge0 desk0 sent0 hs (line_of step ++ rest) → MayStep g state0 old step k rest →
+    StandsBehind (due_by step) r g state edge desk sent hs rest
+step-taken g vouches state0 state edge0 edge desk0 desk sent0 sent old step k r hs rest spoke same s may =
+    let ts = turns_of s.parted.parts in
+    let pieces = due_pieces g s.parted.parts in
+    step-served g state0 state edge0 edge desk0 desk sent0 sent old step k r hs rest s may
+    (spoke g ts pieces step same (asking-step g state0 edge0 desk0 sent0 ts pieces old step k rest s.speaking may))
 
 -- parts that stand are cut where nothing was submitted since
 pub cut-standing : (g : Ground) (state : ControlSession) (edge edge1 : EdgeView) (desk desk1 : DeskView) (sent : Option (List ℕ)) (d : Due) (hs : List HeardLine) (rest : List ℕ) →
@@ -304,13 +308,22 @@ served-err due_by (Err e) g state edge desk sent hs rest err cut = cut
 -- ---- what may come
 
 -- the answer to a line that is refused and not heard
-pub refused-may : (g : Ground) (state : ControlSession) (line : List ℕ) (e : LineError) (k : EventKind) (rest : List ℕ) →
+refused-may : (g : Ground) (state : ControlSession) (line : List ℕ) (e : LineError) (k : EventKind) (rest : List ℕ) →
     IsLine line → parsed line ≡ Err e → is_heard_line (Err e) ≡ false → k ≡ refused_as state.session e → MayStep g state LineDue (ALine line) k rest
 refused-may g state line e k rest is_line same unheard is = record {
   comes = λ h knows. (is_line, subst (λ (r : Result Command LineError). GivenBy g h r k) (sym same) (is ∙ ap (λ (n : ℕ). refused_as n e) knows.session));
   unheard = ap is_heard_line same ∙ unheard;
   long = λ h. cc;
 }
+
+-- what `refuse` asks of such a line
+pub refuses : (g : Ground) (state : ControlSession) (line : List ℕ) (e : LineError) (on : Next) (kind : Result EventKind AllocError) (rest : List ℕ) →
+    IsLine line → parsed line ≡ Err e → is_heard_line (Err e) ≡ false → ((d : Decision) → due_behind (Err e) d ≡ due_at on) → IfOk kind (λ k. k ≡ refused_as state.session e) →
+    MayRefuse g state (ALine line) kind on rest
+refuses g state line e on kind rest is_line same unheard due given = (
+  if_ok-then kind (λ k is. refused-may g state line e k rest is_line same unheard is) given,
+  λ d. ap (λ (r : Result Command LineError). due_behind r d) same ∙ due d,
+)
 
 -- a password
 pub password-may : (g : Ground) (state : ControlSession) (line : List ℕ) (p : _) (rest : List ℕ) → IsLine line → parsed line ≡ Ok (command.Pass p) → MayStep g state LineDue (ALine line) (kind.Pass state.session) rest

@@ -20,9 +20,9 @@ use Rattle.ftp_talk.specs.declared.control_session.ControlSession.{ControlSessio
 use Rattle.ftp_talk.specs.Ground.{Step, Turn, Ground, history}
 use Rattle.ftp_talk.specs.Commands.{asked_name, asked_range, asked_target}
 use Rattle.ftp_talk.specs.Turns.{is_end}
-use Rattle.ftp_talk.specs.Seen.{behind_asked, behind_kind, IsDrawn, AreFed, feed_after, missing_in, failed_in, all_missing, all_failed}
+use Rattle.ftp_talk.specs.Seen.{IsSeen, behind_asked, behind_kind, IsDrawn, AreFed, feed_after, missing_in, failed_in, all_missing, all_failed}
 use Rattle.ftp_talk.specs.Talk.{Grew, AreVouched, Shares, greeting_of}
-use Rattle.ftp_talk.specs.Speaking.{Knows, Keeps, Speaking, Asking, Front, Entered, turn_of}
+use Rattle.ftp_talk.specs.Speaking.{Knows, Keeps, StandsAfter, Speaking, Asking, Front, Entered, turn_of}
 
 -- ---- counts
 
@@ -156,6 +156,48 @@ shares-more g desk desk1 ts step earlier e before more =
 
 -- ---- a turn
 
+-- where nothing was submitted
+pub after-same : (g : Ground) (state : ControlSession) (desk desk1 : DeskView) (ts : List Turn) → StandsAfter g state desk ts → SameDesk desk desk1 → StandsAfter g state desk1 ts
+after-same g state desk desk1 ts a same =
+    record {
+      over = a.over;
+      kept = kept-same g desk desk1 ts a.kept same;
+      refused = omega (arith, a.refused, same.refused);
+      vouched = a.vouched;
+      share = rises-same (length (history g ts)) g.start.desk.share desk.share desk1.share a.share same.share;
+    }
+
+-- where an entry was
+after-more : (g : Ground) (vouches : Bool) (state state1 : ControlSession) (edge edge1 : EdgeView) (desk desk1 : DeskView) (sent : Option (List ℕ))
+    (ts : List Turn) (pieces : Pieces) (step : Step) (earlier : List (ℕ × Reply)) (e : Entry) (k : EventKind) →
+    Asking g state edge desk sent ts pieces e.event.kind →
+    g.start.vouches ≡ vouches →
+    Entered vouches edge edge1 desk desk1 earlier e k →
+    state1.is_over ≡ is_end e.decision →
+    StandsAfter g state1 desk1 (turn_of step earlier e ∷ ts)
+after-more g vouches state state1 edge edge1 desk desk1 sent ts pieces step earlier e k a same n over =
+    record {
+      over = over;
+      kept = kept-more g desk desk1 ts step earlier e a.after.kept n.appended a.named;
+      refused = omega (arith, a.after.refused, n.unrefused);
+      vouched = vouched-more g vouches desk ts step earlier e a.after.vouched same a.ground.options n.vouched;
+      share = shares-more g desk desk1 ts step earlier e a.after.share n.share;
+    }
+
+-- it is the next of what is seen
+seen-more : (g : Ground) (vouches : Bool) (state : ControlSession) (edge edge1 edge2 : EdgeView) (desk desk1 : DeskView) (sent : Option (List ℕ))
+    (ts : List Turn) (pieces : Pieces) (step : Step) (earlier : List (ℕ × Reply)) (e : Entry) (k : EventKind) →
+    Asking g state edge desk sent ts pieces e.event.kind →
+    Entered vouches edge edge1 desk desk1 earlier e k →
+    edge1.faults ≤ edge2.faults →
+    IsSeen g (turn_of step earlier e ∷ ts) edge2 desk1.faults
+seen-more g vouches state edge edge1 edge2 desk desk1 sent ts pieces step earlier e k a n count =
+    record {
+      fed = fed-more g g.start.edge.feed edge.feed ts e a.fed a.feed n.moment;
+      edge = counted-on (all_missing g ts + missing_in g (history g ts) e.event.kind) g.start.edge.faults edge.faults edge2.faults a.missing (omega (arith, n.taken.count, count));
+      storage = counted-on (all_failed ts + failed_in e.event.kind) g.start.desk.faults desk.faults desk1.faults a.failed n.count;
+    }
+
 -- an event was submitted and answered
 pub spoken-is : (g : Ground) (vouches : Bool) (state state1 : ControlSession) (edge edge1 edge2 : EdgeView) (desk desk1 : DeskView) (sent sent1 : Option (List ℕ))
     (ts : List Turn) (pieces more : Pieces) (step : Step) (earlier : List (ℕ × Reply)) (e : Entry) (k : EventKind) →
@@ -170,26 +212,18 @@ pub spoken-is : (g : Ground) (vouches : Bool) (state state1 : ControlSession) (e
     Speaking g state1 edge2 desk1 sent1 (turn_of step earlier e ∷ ts) (pieces ++ more)
 spoken-is g vouches state state1 edge edge1 edge2 desk desk1 sent sent1 ts pieces more step earlier e k asking same n two knows over wrote paused =
     let a = subst (Asking g state edge desk sent ts pieces) (sym n.kind) asking in
-    let kept = kept-more g desk desk1 ts step earlier e a.kept n.appended a.named in
+    let after = after-more g vouches state state1 edge edge1 desk desk1 sent ts pieces step earlier e k a same n over in
     record {
-      seen = record {
-        fed = fed-more g g.start.edge.feed edge.feed ts e a.fed a.feed n.moment;
-        edge = counted-on (all_missing g ts + missing_in g (history g ts) e.event.kind) g.start.edge.faults edge.faults edge2.faults a.missing (omega (arith, n.taken.count, two.count));
-        storage = counted-on (all_failed ts + failed_in e.event.kind) g.start.desk.faults desk.faults desk1.faults a.failed n.count;
-      };
+      seen = seen-more g vouches state edge edge1 edge2 desk desk1 sent ts pieces step earlier e k a n two.count;
       feed = feed-more g g.start.edge.feed edge edge1 edge2 ts e a.feed n.taken two;
       known = knows;
-      over = over;
       ground = record {
         meaning = two.meaning ∙ n.taken.meaning ∙ a.ground.meaning;
         options = n.options ∙ a.ground.options;
         files = n.files ∙ a.ground.files;
-        journal = journal-of g desk1 (turn_of step earlier e ∷ ts) kept;
+        journal = journal-of g desk1 (turn_of step earlier e ∷ ts) after.kept;
       };
-      kept = kept;
-      vouched = vouched-more g vouches desk ts step earlier e a.vouched same a.ground.options n.vouched;
-      share = shares-more g desk desk1 ts step earlier e a.share n.share;
-      refused = omega (arith, a.refused, n.unrefused);
+      after = after;
       written = wrote-pieces g.start.sent sent sent1 (greeting_of g) pieces more a.written wrote;
       paused = paused-pieces g.start.edge.paused edge.paused edge1.paused edge2.paused pieces more a.paused n.unpaused paused;
     }
@@ -209,17 +243,9 @@ front-after g vouches state state1 edge edge1 edge2 desk desk1 sent sent1 ts pie
     let a = subst (Asking g state edge desk sent ts pieces) (sym n.kind) asking in
     record {
       session = session ∙ a.known.session;
-      over = over;
       options = n.options ∙ a.ground.options;
-      seen = record {
-        fed = fed-more g g.start.edge.feed edge.feed ts e a.fed a.feed n.moment;
-        edge = counted-on (all_missing g ts + missing_in g (history g ts) e.event.kind) g.start.edge.faults edge.faults edge2.faults a.missing (omega (arith, n.taken.count, two));
-        storage = counted-on (all_failed ts + failed_in e.event.kind) g.start.desk.faults desk.faults desk1.faults a.failed n.count;
-      };
-      kept = kept-more g desk desk1 ts step earlier e a.kept n.appended a.named;
-      vouched = vouched-more g vouches desk ts step earlier e a.vouched same a.ground.options n.vouched;
-      share = shares-more g desk desk1 ts step earlier e a.share n.share;
-      refused = omega (arith, a.refused, n.unrefused);
+      seen = seen-more g vouches state edge edge1 edge2 desk desk1 sent ts pieces step earlier e k a n two;
+      after = after-more g vouches state state1 edge edge1 desk desk1 sent ts pieces step earlier e k a same n over;
       written = pieces-behind g.start.sent sent sent1 g.start.edge.paused edge1.paused edge2.paused (greeting_of g) pieces more a.written
           (subst (IsPaused (piece_delays pieces) g.start.edge.paused) (sym n.unpaused) a.paused) says;
     }
@@ -242,17 +268,13 @@ pub front-before : (g : Ground) (state : ControlSession) (edge edge1 : EdgeView)
 front-before g state edge edge1 desk desk1 sent ts pieces k a count still same =
     record {
       session = a.known.session;
-      over = a.over;
       options = same.options ∙ a.ground.options;
       seen = record {
         fed = a.fed;
         edge = counted-less (all_missing g ts) (missing_in g (history g ts) k) g.start.edge.faults edge.faults edge1.faults a.missing count;
         storage = counted-less (all_failed ts) (failed_in k) g.start.desk.faults desk.faults desk1.faults a.failed same.count;
       };
-      kept = kept-same g desk desk1 ts a.kept same;
-      vouched = a.vouched;
-      share = rises-same (length (history g ts)) g.start.desk.share desk.share desk1.share a.share same.share;
-      refused = omega (arith, a.refused, same.refused);
+      after = after-same g state desk desk1 ts a.after same;
       written = all-said g edge edge1 sent pieces a.written a.paused still;
     }
 
@@ -266,16 +288,12 @@ pub front-same : (g : Ground) (state : ControlSession) (edge edge1 : EdgeView) (
 front-same g state edge edge1 desk desk1 sent ts pieces s count still same =
     record {
       session = s.known.session;
-      over = s.over;
       options = same.options ∙ s.ground.options;
       seen = record {
         fed = s.seen.fed;
         edge = counted-on (all_missing g ts) g.start.edge.faults edge.faults edge1.faults s.seen.edge count;
         storage = counted-on (all_failed ts) g.start.desk.faults desk.faults desk1.faults s.seen.storage same.count;
       };
-      kept = kept-same g desk desk1 ts s.kept same;
-      vouched = s.vouched;
-      share = rises-same (length (history g ts)) g.start.desk.share desk.share desk1.share s.share same.share;
-      refused = omega (arith, s.refused, same.refused);
+      after = after-same g state desk desk1 ts s.after same;
       written = all-said g edge edge1 sent pieces s.written s.paused still;
     }

@@ -1,17 +1,13 @@
 -- The talk on a control connection where more is done on some lines than the profile does, as a relation on the whole input.
 use Rattle.std.specs.Prelude.{◌≡◌, ℕ, true, List, ◌++◌, Option}
 use Rattle.ftp_base.specs.Edge.{EdgeView}
-use Rattle.ftp_base.specs.Outside.{Writes}
 use Rattle.ftp_shared.specs.Desk.{DeskView}
 use Rattle.ftp_control.specs.ControlLine.{IsLong}
 use Rattle.ftp_talk.specs.declared.serving.ServeEnd.{ServeEnd}
 use Rattle.ftp_talk.specs.declared.serving.ServeEnd.TheVariants as end
 use Rattle.ftp_talk.specs.Ground.{Turn, Ground, lines_in}
 use Rattle.ftp_talk.specs.Parts.{HeardLine, TalkPart, turns_of, heard_in, MayDoSo, AreAllowed, Parts, pieces_by}
-use Rattle.ftp_talk.specs.Pieces.{piece_text, piece_delays, SaysPieces}
-use Rattle.ftp_talk.specs.Saying.{IsPaused}
-use Rattle.ftp_talk.specs.Seen.{IsSeen}
-use Rattle.ftp_talk.specs.Talk.{greeting_of, IsInput, Grew, AreVouched, Shares, is_long_last, is_over, IsEnded, IsLeft, closed_by}
+use Rattle.ftp_talk.specs.Talk.{IsInput, is_long_last, ComesToEnd, IsCutShort}
 
 -- parts of a talk in which these lines were heard, and behind them this rest of the input
 pub record PartsBefore (g : Ground) (hs : List HeardLine) (rest : List ℕ) : Type 0 where
@@ -27,26 +23,14 @@ pub record TalkHeard (g : Ground) (edge : EdgeView) (desk : DeskView) (sent : Op
   pub rest : List ℕ
   pub parted : PartsBefore g hs rest
   pub close : Option Turn
-  pub ended : IsEnded g close (turns_of parted.parts) rest
-  pub seen : IsSeen g (closed_by close (turns_of parted.parts)) edge desk.faults
-  pub grew : Grew g desk (closed_by close (turns_of parted.parts))
-  pub vouched : AreVouched g (closed_by close (turns_of parted.parts))
-  pub last : g.start.vouches ≡ true → is_over (closed_by close (turns_of parted.parts)) ≡ true
-  pub share : Shares g desk (closed_by close (turns_of parted.parts))
-  pub written : Writes g.start.sent sent (greeting_of g ++ piece_text (pieces_by g close parted.parts))
-  pub paused : IsPaused (piece_delays (pieces_by g close parted.parts)) g.start.edge.paused edge.paused
+  pub ends : ComesToEnd g edge desk sent (turns_of parted.parts) rest close (pieces_by g close parted.parts)
 
 -- such a talk that was cut short
 pub record TalkFrontHeard (g : Ground) (edge : EdgeView) (desk : DeskView) (sent : Option (List ℕ)) (hs : List HeardLine) : Type 0 where
   pub rest : List ℕ
   pub parted : PartsBefore g hs rest
   pub close : Option Turn
-  pub closing : IsLeft g desk close (turns_of parted.parts)
-  pub seen : IsSeen g (turns_of parted.parts) edge desk.faults
-  pub grew : Grew g desk (closed_by close (turns_of parted.parts))
-  pub vouched : AreVouched g (closed_by close (turns_of parted.parts))
-  pub share : Shares g desk (closed_by close (turns_of parted.parts))
-  pub written : SaysPieces g.start.sent sent g.start.edge.paused edge.paused (greeting_of g) (pieces_by g close parted.parts)
+  pub ends : IsCutShort g edge desk sent (turns_of parted.parts) close (pieces_by g close parted.parts)
 
 -- a talk in which on each line was done what may be done
 abbrev pub TalkWith : MayDoSo → Option (List ℕ) → Ground → EdgeView → DeskView → Option (List ℕ) → Type 0

@@ -14,9 +14,9 @@ use Rattle.ftp_extras.specs.declared.extra.Extra.{Extra}
 use Rattle.ftp_extras.specs.declared.extra.Extra.TheVariants as extra
 use Rattle.ftp_shared.specs.Desk.{DeskView}
 use Rattle.ftp_talk.specs.Extended.{TalkHeard, TalkFrontHeard}
-use Rattle.ftp_talk.specs.Ground.{Turn, Ground, history}
+use Rattle.ftp_talk.specs.Ground.{Ground, history}
 use Rattle.ftp_talk.specs.Parts.{HeardLine, TalkPart, turns_of, Parts, with_spoken, is_epsv_at, pieces_for, due_pieces}
-use Rattle.ftp_talk.specs.Pieces.{Pieces, pieces_of}
+use Rattle.ftp_talk.specs.Pieces.{Pieces}
 use Rattle.ftp_talk.specs.Talk.{Talk, TalkFront, AreVouched, due_replies}
 use Rattle.ftp_talk.specs.Turns.{is_end}
 
@@ -51,7 +51,7 @@ HasNoEpsv ps = AllByRecursion (λ (p : TalkPart). is_epsv_at p.heard ≡ false) 
 abbrev pub SaysReplies : Type 0
 SaysReplies =
     (g : Ground) (ps : List TalkPart) →
-    IsMerged (replies_in_form g ps) (said_on_lines ps) (due_pieces g ps) × (HasNoEpsv ps → replies_in_form g ps ≡ pieces_of (due_replies g (turns_of ps)))
+    IsMerged (replies_in_form g ps) (said_on_lines ps) (due_pieces g ps) × (HasNoEpsv ps → replies_in_form g ps ≡ due_replies g (turns_of ps))
 
 -- a message was told, or bytes were said
 abbrev pub is_told : Extra → Bool

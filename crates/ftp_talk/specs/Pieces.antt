@@ -3,10 +3,12 @@ use Rattle.std.specs.Prelude.{◌≡◌, ℕ, ◌+◌, ◌≤◌, List, [], ◌�
 use Rattle.std.specs.List.{flat_map}
 use Rattle.ftp_base.specs.declared.reply.Reply.{Reply}
 use Rattle.ftp_base.specs.Reply.{encoding}
+use Rattle.ftp_base.specs.Outside.{Writes}
 use Rattle.ftp_events.specs.declared.action.Action.{Action}
 use Rattle.ftp_control.specs.Writing.{WritesFront}
 use Rattle.ftp_extras.specs.ReplyLines.{reply_bytes, epsv_reply}
-use Rattle.ftp_talk.specs.Saying.{IsPaused, said}
+use Rattle.ftp_shared.specs.Outbox.{replies_in}
+use Rattle.ftp_talk.specs.Saying.{IsPaused}
 
 -- pieces, with the milliseconds of their delays
 abbrev pub Pieces : Type 0
@@ -17,11 +19,15 @@ abbrev pub pieces_of : List (ℕ × Reply) → Pieces
 pieces_of [] = []
 pieces_of (r ∷ replies) = (r.0, encoding r.1) ∷ pieces_of replies
 
--- what is said to session s: the replies that came earlier, and those among the actions; where a port is granted for an EPSV
--- the reply to the EPSV stands in place of those
+-- what an entry says to session s: the replies to it among the actions; where a port is granted for an EPSV the reply to the
+-- EPSV stands in place of those
+abbrev pub entry_pieces : ℕ → Option ℕ → List Action → Pieces
+entry_pieces s None actions = pieces_of (replies_in actions s)
+entry_pieces s (Some port) actions = (0, reply_bytes (epsv_reply port)) ∷ []
+
+-- what is said to session s: the replies that came earlier, and then what the entry says
 abbrev pub said_pieces : ℕ → Option ℕ → List (ℕ × Reply) → List Action → Pieces
-said_pieces s None earlier actions = pieces_of (said s earlier actions)
-said_pieces s (Some port) earlier actions = pieces_of earlier ++ (0, reply_bytes (epsv_reply port)) ∷ []
+said_pieces s port earlier actions = pieces_of earlier ++ entry_pieces s port actions
 
 -- the bytes of pieces
 abbrev pub piece_text : Pieces → List ℕ
@@ -43,3 +49,10 @@ pub record SaysPieces (old new : Option (List ℕ)) (before after : ℕ) (waited
   pub least : piece_delays begun ≤ millis
   pub most : millis ≤ piece_delays pieces
   pub paused : IsPaused millis before after
+
+-- a text that waited and pieces behind it were said but for what waits now, and the delays of the pieces were paused
+pub record Says (old new : Option (List ℕ)) (before after : ℕ) (waited waits : List ℕ) (pieces : Pieces) : Type 0 where
+  pub gone : List ℕ
+  pub written : Writes old new gone
+  pub text : gone ++ waits ≡ waited ++ piece_text pieces
+  pub paused : IsPaused (piece_delays pieces) before after

@@ -2,8 +2,6 @@
 use Rattle.std.specs.Prelude.{Bool, true, false, if◌then◌else◌}
 use Rattle.ftp_events.specs.declared.decision.Decision.{Decision}
 use Rattle.ftp_events.specs.declared.decision.Decision.TheVariants as decision
-use Rattle.ftp_control.specs.declared.line.LineError.{LineError}
-use Rattle.ftp_control.specs.declared.line.LineError.TheVariants as error
 use Rattle.ftp_talk.specs.declared.serving.Next.{Next}
 use Rattle.ftp_talk.specs.declared.serving.Next.TheVariants as next
 use Rattle.ftp_talk.specs.Turns.{is_end}
@@ -16,8 +14,3 @@ is_out _ = false
 -- what comes behind a decision: nothing where it ends the session
 abbrev pub next_of : Decision → Next → Next
 next_of d on = if is_end d then next.Over else on
-
--- what comes behind a line that was refused: the end, where it is no text
-abbrev pub behind_refusal : LineError → Next
-behind_refusal error.Utf8 = next.Close
-behind_refusal _ = next.GoOn

@@ -1,5 +1,6 @@
 -- What is kept while a talk goes on.
-use Rattle.std.specs.Prelude.{◌≡◌, ℕ, ◌+◌, ◌%◌, ◌^◌, ◌≤◌, ◌⊎◌, ⊤, Bool, true, false, List, [], ◌∷◌, ◌++◌, Option, Some, None, IfSome, MatchOption, is_some, Result, Ok, Err, OnOk}
+use Rattle.std.specs.Prelude.{◌≡◌, ℕ, ◌+◌, ◌%◌, ◌^◌, ◌≤◌, ◌⊎◌, ⊤, Bool, true, false, List, [], ◌∷◌, ◌++◌, Option, Some, None, IfSome, MatchOption, is_some, Result, Ok, Err, IfOk, OnOk}
+use Rattle.std.specs.declared.alloc.AllocError.{AllocError}
 use Rattle.std.specs.Bool.{then_some}
 use Rattle.std.specs.List.{AllByRecursion}
 use Rattle.ftp_base.specs.declared.login.AuthAnswer.{AuthAnswer}
@@ -41,7 +42,7 @@ use Rattle.ftp_extras.specs.declared.extra.Extra.{Extra}
 use Rattle.ftp_extras.specs.Extra.{AskerView, gives_password, is_beside, IsWhole}
 use Rattle.ftp_control.specs.Line.{parsed}
 use Rattle.ftp_talk.specs.Commands.{is_in, asked_of, connected_to, looked_up, bound_in, MayBe, Gives}
-use Rattle.ftp_talk.specs.Turns.{Due, LineDue, CloseDue, NothingDue, due, Comes}
+use Rattle.ftp_talk.specs.Turns.{Due, LineDue, CloseDue, NothingDue, due, due_after, Comes}
 use Rattle.ftp_talk.specs.Seen.{IsSeen, IsDrawn, IsAsked, missing, behind_asked, AreFed, behind_kind, missing_in, failed_in, feed_after, all_missing, all_failed}
 use Rattle.ftp_talk.specs.Talk.{Talk, TalkFront, AreVouched, Shares, greeting_of, is_over, is_long}
 use Rattle.ftp_talk.specs.Saying.{IsPaused}
@@ -126,17 +127,21 @@ abbrev pub Keeps : Ground → DeskView → List Turn → Type 0
 Keeps g desk ts =
     IfSome g.start.desk.journal (λ J. (desk.journal ≡ Some (history g ts ++ J)) × (desk.outbox g.session ≡ []) × AllByRecursion (λ (t : Turn). t.earlier ≡ []) ts)
 
+-- how state and desk stand after these turns
+pub record StandsAfter (g : Ground) (state : ControlSession) (desk : DeskView) (ts : List Turn) : Type 0 where
+  pub over : state.is_over ≡ is_over ts
+  pub kept : Keeps g desk ts
+  pub refused : g.start.desk.refused ≤ desk.refused
+  pub vouched : AreVouched g ts
+  pub share : Shares g desk ts
+
 -- the turns so far gave their entries, and all that is due was sent
 pub record Speaking (g : Ground) (state : ControlSession) (edge : EdgeView) (desk : DeskView) (sent : Option (List ℕ)) (ts : List Turn) (pieces : Pieces) : Type 0 where
   pub seen : IsSeen g ts edge desk.faults
   pub feed : IfSome g.start.edge.feed (λ f. edge.feed ≡ Some (feed_after g f ts))
   pub known : Knows g state (history g ts)
-  pub over : state.is_over ≡ is_over ts
   pub ground : IsGround g (history g ts) edge desk
-  pub kept : Keeps g desk ts
-  pub refused : g.start.desk.refused ≤ desk.refused
-  pub vouched : AreVouched g ts
-  pub share : Shares g desk ts
+  pub after : StandsAfter g state desk ts
   pub written : Writes g.start.sent sent (greeting_of g ++ piece_text pieces)
   pub paused : IsPaused (piece_delays pieces) g.start.edge.paused edge.paused
 
@@ -148,25 +153,17 @@ pub record Asking (g : Ground) (state : ControlSession) (edge : EdgeView) (desk 
   pub missing : IsCounted (all_missing g ts + missing_in g (history g ts) k) g.start.edge.faults edge.faults
   pub failed : IsCounted (all_failed ts + failed_in k) g.start.desk.faults desk.faults
   pub known : Knows g state (history g ts)
-  pub over : state.is_over ≡ is_over ts
   pub ground : IsGround g (history g ts) edge desk
-  pub kept : Keeps g desk ts
-  pub refused : g.start.desk.refused ≤ desk.refused
-  pub vouched : AreVouched g ts
-  pub share : Shares g desk ts
+  pub after : StandsAfter g state desk ts
   pub written : Writes g.start.sent sent (greeting_of g ++ piece_text pieces)
   pub paused : IsPaused (piece_delays pieces) g.start.edge.paused edge.paused
 
 -- the turns so far gave their entries, and of what is due a front was sent
 pub record Front (g : Ground) (state : ControlSession) (edge : EdgeView) (desk : DeskView) (sent : Option (List ℕ)) (ts : List Turn) (pieces : Pieces) : Type 0 where
   pub session : state.session ≡ g.session
-  pub over : state.is_over ≡ is_over ts
   pub options : desk.options ≡ g.start.desk.options
   pub seen : IsSeen g ts edge desk.faults
-  pub kept : Keeps g desk ts
-  pub refused : g.start.desk.refused ≤ desk.refused
-  pub vouched : AreVouched g ts
-  pub share : Shares g desk ts
+  pub after : StandsAfter g state desk ts
   pub written : SaysPieces g.start.sent sent g.start.edge.paused edge.paused (greeting_of g) pieces
 
 -- an event of this moment was submitted, and this entry was told
@@ -242,6 +239,10 @@ abbrev pub due_at : Next → Due
 due_at next.GoOn = LineDue
 due_at next.Over = NothingDue
 due_at next.Close = CloseDue
+
+-- with this event a line may be refused, and this comes behind it
+abbrev pub MayRefuse : Ground → ControlSession → Step → Result EventKind AllocError → Next → List ℕ → Type 0
+MayRefuse g state step kind on rest = IfOk kind (λ k. MayStep g state LineDue step k rest) × ((d : Decision) → due_after step d ≡ due_at on)
 
 -- a line is due, and what is held and left of the input is the rest, where the input is told
 pub record Talking (g : Ground) (state : ControlSession) (edge : EdgeView) (desk : DeskView) (sent : Option (List ℕ)) (hs : List HeardLine) (held : List ℕ) (left : Option (List ℕ)) : Type 0 where

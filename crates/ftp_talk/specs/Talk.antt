@@ -3,36 +3,24 @@ use Rattle.std.specs.Prelude.{◌≡◌, ℕ, ◌⊎◌, ⊤, Bool, true, false,
 use Rattle.std.specs.List.{AllByRecursion}
 use Rattle.ftp_base.specs.Edge.{EdgeView}
 use Rattle.ftp_base.specs.Outside.{HasRisen, Writes}
-use Rattle.ftp_base.specs.declared.reply.Reply.{Reply}
 use Rattle.ftp_events.specs.declared.event.Answer.TheVariants as answer
 use Rattle.ftp_events.specs.declared.event.EventKind.TheVariants as kind
 use Rattle.ftp_shared.specs.Desk.{DeskView, IsVouched, RisesBy}
 use Rattle.ftp_control.specs.ControlLine.{RanOut, IsLong}
-use Rattle.ftp_talk.specs.Saying.{greeting_line, encodings, delays, said, IsPaused, SaysFront}
+use Rattle.ftp_talk.specs.Saying.{greeting_line, IsPaused}
+use Rattle.ftp_talk.specs.Pieces.{Pieces, said_pieces, piece_text, piece_delays, SaysPieces}
 use Rattle.ftp_talk.specs.Ground.{Step, ALongLine, AClose, Turn, Ground, history, lines_in}
 use Rattle.ftp_talk.specs.Turns.{Due, LineDue, CloseDue, is_end, due, Turns}
 use Rattle.ftp_talk.specs.Seen.{IsSeen}
 
 -- the replies that are to be said: turn by turn those that came earlier and those of the entry
-abbrev pub due_replies : Ground → List Turn → List (ℕ × Reply)
+abbrev pub due_replies : Ground → List Turn → Pieces
 due_replies g [] = []
-due_replies g (t ∷ ts) = due_replies g ts ++ said g.session t.earlier t.entry.actions
+due_replies g (t ∷ ts) = due_replies g ts ++ said_pieces g.session None t.earlier t.entry.actions
 
 -- the line of the talk's greeting
 abbrev pub greeting_of : Ground → List ℕ
 greeting_of g = greeting_line g.start.desk.options.greeting
-
--- what is to be said: the greeting's line, and the replies
-abbrev pub due_text : Ground → List Turn → List ℕ
-due_text g ts = greeting_of g ++ encodings (due_replies g ts)
-
--- the delays of the replies were paused
-abbrev pub ArePaused : Ground → EdgeView → List Turn → Type 0
-ArePaused g edge ts = IsPaused (delays (due_replies g ts)) g.start.edge.paused edge.paused
-
--- the greeting's line and of the replies a part from the front was said, each behind its delay
-abbrev pub SaysSome : Ground → EdgeView → Option (List ℕ) → List Turn → Type 0
-SaysSome g edge sent ts = SaysFront g.start.sent sent g.start.edge.paused edge.paused (greeting_of g) (due_replies g ts)
 
 -- where the input is told, it is these bytes
 abbrev pub IsInput : Option (List ℕ) → List ℕ → Type 0
@@ -99,31 +87,39 @@ pub record TurnsBefore (g : Ground) (rest : List ℕ) : Type 0 where
   pub ruled : Turns g turns
   pub long : is_long_last turns ≡ true → IsLong rest
 
--- a talk: lines of the input with their entries, as edge, storage and authenticator answered, up to its end; all that was due
--- was sent, and the delays of its replies were paused. What is not told is not spoken of. Where the desk vouches for its
--- entries, the last one ends the session
+-- turns, behind which the connection was closed or not, are all of a talk, up to its end, as edge, storage and authenticator
+-- answered: the greeting's line and these pieces were sent, and their delays paused. What is not told is not spoken of. Where the
+-- desk vouches for its entries, the last one ends the session
+pub record ComesToEnd (g : Ground) (edge : EdgeView) (desk : DeskView) (sent : Option (List ℕ)) (turns : List Turn) (rest : List ℕ) (close : Option Turn) (pieces : Pieces) : Type 0 where
+  pub ended : IsEnded g close turns rest
+  pub seen : IsSeen g (closed_by close turns) edge desk.faults
+  pub grew : Grew g desk (closed_by close turns)
+  pub vouched : AreVouched g (closed_by close turns)
+  pub last : g.start.vouches ≡ true → is_over (closed_by close turns) ≡ true
+  pub share : Shares g desk (closed_by close turns)
+  pub written : Writes g.start.sent sent (greeting_of g ++ piece_text pieces)
+  pub paused : IsPaused (piece_delays pieces) g.start.edge.paused edge.paused
+
+-- turns from the front of a talk that was cut short, then one that closes the connection, where the session had not ended and its
+-- event was taken; a front of the greeting's line and these pieces was sent, each piece behind its delay
+pub record IsCutShort (g : Ground) (edge : EdgeView) (desk : DeskView) (sent : Option (List ℕ)) (turns : List Turn) (close : Option Turn) (pieces : Pieces) : Type 0 where
+  pub closing : IsLeft g desk close turns
+  pub seen : IsSeen g turns edge desk.faults
+  pub grew : Grew g desk (closed_by close turns)
+  pub vouched : AreVouched g (closed_by close turns)
+  pub share : Shares g desk (closed_by close turns)
+  pub written : SaysPieces g.start.sent sent g.start.edge.paused edge.paused (greeting_of g) pieces
+
+-- a talk: lines of the input with their entries, up to its end, where the replies are said
 pub record Talk (g : Ground) (edge : EdgeView) (desk : DeskView) (sent : Option (List ℕ)) : Type 0 where
   pub rest : List ℕ
   pub turned : TurnsBefore g rest
   pub close : Option Turn
-  pub ended : IsEnded g close turned.turns rest
-  pub seen : IsSeen g (closed_by close turned.turns) edge desk.faults
-  pub grew : Grew g desk (closed_by close turned.turns)
-  pub vouched : AreVouched g (closed_by close turned.turns)
-  pub last : g.start.vouches ≡ true → is_over (closed_by close turned.turns) ≡ true
-  pub share : Shares g desk (closed_by close turned.turns)
-  pub written : Writes g.start.sent sent (due_text g (closed_by close turned.turns))
-  pub paused : ArePaused g edge (closed_by close turned.turns)
+  pub ends : ComesToEnd g edge desk sent turned.turns rest close (due_replies g (closed_by close turned.turns))
 
--- a talk that was cut short: turns from its front, then one that closes the connection, where the session had not ended and
--- its event was taken; a front of what was due was sent, each reply behind its delay
+-- a talk that was cut short
 pub record TalkFront (g : Ground) (edge : EdgeView) (desk : DeskView) (sent : Option (List ℕ)) : Type 0 where
   pub rest : List ℕ
   pub turned : TurnsBefore g rest
   pub close : Option Turn
-  pub closing : IsLeft g desk close turned.turns
-  pub seen : IsSeen g turned.turns edge desk.faults
-  pub grew : Grew g desk (closed_by close turned.turns)
-  pub vouched : AreVouched g (closed_by close turned.turns)
-  pub share : Shares g desk (closed_by close turned.turns)
-  pub written : SaysSome g edge sent (closed_by close turned.turns)
+  pub ends : IsCutShort g edge desk sent turned.turns close (due_replies g (closed_by close turned.turns))

@@ -1,8 +1,7 @@
-//! What comes to pass besides lines: looks at times, lines that are too long, and the end.
+//! What comes to pass besides lines: looks at times, and the end.
 
 ghost use Rattle.std.specs.Prelude.{◌≡◌, ◌≤◌, ◌++◌, [], ℕ, List, Option, Some, true, false, IfSome, IfNone, OnErr, IsErrOf, ◌⊎◌};
 ghost use Rattle.ftp_base.specs.Outside.{HasRisen};
-ghost use Rattle.ftp_control.specs.ControlLine.{IsLong};
 ghost use Rattle.ftp_talk.specs.Saying.{OnlyWrites};
 ghost use Rattle.ftp_talk.specs.declared.halt.Halt.TheVariants.{Exhausted, Fault};
 ghost use Rattle.ftp_talk.specs.Ground.{Ground};
@@ -114,32 +113,18 @@ impl ControlSession {
         ensures exhausted { IsErrOf result Exhausted → D.exhausts ≡ true }
     {
         let session = self.session;
-        let decision = self.take_step(desk, control, edge, EventKind::IdleTick { session })?;
+        let decision = self.submit_for(
+            desk,
+            control,
+            edge,
+            EventKind::IdleTick { session },
+            false,
+        )?;
         if is_end(decision) {
             return Ok(Next::Over);
         }
         let session = self.session;
-        let looked = self.take_step(desk, control, edge, EventKind::SlotTick { session })?;
+        let looked = self.submit_for(desk, control, edge, EventKind::SlotTick { session }, false)?;
         Ok(next_of(looked, Next::GoOn))
-    }
-
-    // Answers a line that is too long, and stands next.
-    pub(crate) fn serve_long<D: Desk, C: Control, E: Edge>(
-        &mut self,
-        desk: &mut D,
-        control: &mut C,
-        edge: &mut E,
-    ) -> Result<Next, Halt>
-        ensures served { (g : Ground) (hs : List HeardLine) (rest : List ℕ) → IsAbout g D.vouches D.draws_next → IsLong rest →
-            Standing LineDue g self.old (E.view edge.old) (D.view desk.old) (C.sending control.old).sent hs rest →
-            StandsBehind due_at result g self.new (E.view edge.new) (D.view desk.new) (C.sending control.new).sent hs rest }
-        ensures control { OnlyWrites (IsErrOf result Fault) (C.left control.old) (C.left control.new) (C.faults control.old) (C.faults control.new) }
-        ensures exhausted { IsErrOf result Exhausted → D.exhausts ≡ true }
-    {
-        let Ok(kind) = self.too_long() else {
-            return Err(Halt::Memory);
-        };
-        let decision = self.take_step(desk, control, edge, kind)?;
-        Ok(next_of(decision, Next::Close))
     }
 }

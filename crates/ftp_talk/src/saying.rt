@@ -1,13 +1,13 @@
 //! Replies on their way to the client, by way of one buffer that is used again and again.
 
-ghost use Rattle.std.specs.Prelude.{◌≡◌, ◌++◌, [], Some, OnOk, OnErr, IsErrOf};
+ghost use Rattle.std.specs.Prelude.{◌≡◌, ◌++◌, [], ◌∷◌, OnOk, OnErr, IsErrOf};
 ghost use Rattle.ftp_base.specs.declared.fault.Failed.TheVariants.{Fault};
 ghost use Rattle.ftp_base.specs.Outside.{Writes};
 ghost use Rattle.ftp_base.specs.Reply.{encoding};
 ghost use Rattle.ftp_control.specs.Writing.{WritesFront};
 ghost use Rattle.ftp_shared.specs.Outbox.{replies_in};
-ghost use Rattle.ftp_talk.specs.Saying.{encodings, greeting_line, said_in, delay_in, delays, said, OnlySays, OnlyWrites, WritesBut, IsPaused, IsPausedWithin, SaysFront};
-ghost use Rattle.ftp_talk.specs.Pieces.{SaysPieces, piece_delays, piece_text, said_pieces};
+ghost use Rattle.ftp_talk.specs.Saying.{greeting_line, OnlySays, OnlyWrites, IsPaused};
+ghost use Rattle.ftp_talk.specs.Pieces.{Says, SaysPieces, entry_pieces, piece_delays, piece_text, pieces_of, said_pieces};
 
 use ftp_base::{Bytes, Edge, Failed, Link, Reply};
 use ftp_events::Action;
@@ -76,9 +76,8 @@ fn pause<L: Link, E: Edge>(
     text: &mut Vec<u8>,
     delay: u32,
 ) -> Result<(), Failed>
-    ensures wrote { OnOk result (WritesBut (L.sending link.old).sent (L.sending link.new).sent text.old.items text.new.items []) }
+    ensures said { OnOk result (Says (L.sending link.old).sent (L.sending link.new).sent (E.view edge.old).paused (E.view edge.new).paused text.old.items text.new.items ((delay, []) ∷ [])) }
     ensures calls { OnlySays (IsErrOf result Fault) (L.left link.old) (L.left link.new) (L.faults link.old) (L.faults link.new) (E.view edge.old) (E.view edge.new) }
-    ensures paused { OnOk result (IsPaused delay (E.view edge.old).paused (E.view edge.new).paused) }
     ensures unpaused { OnErr result ((E.view edge.new).paused ≡ (E.view edge.old).paused) }
     ensures front { OnErr result (WritesFront (L.sending link.old).sent (L.sending link.new).sent text.old.items) }
 {
@@ -97,11 +96,9 @@ fn add<L: Link, E: Edge>(
     delay: u32,
     reply: &Reply,
 ) -> Result<(), Failed>
-    ensures wrote { OnOk result (WritesBut (L.sending link.old).sent (L.sending link.new).sent text.old.items text.new.items (encoding reply.now)) }
+    ensures said { OnOk result (Says (L.sending link.old).sent (L.sending link.new).sent (E.view edge.old).paused (E.view edge.new).paused text.old.items text.new.items ((delay, encoding reply.now) ∷ [])) }
     ensures calls { OnlySays (IsErrOf result Fault) (L.left link.old) (L.left link.new) (L.faults link.old) (L.faults link.new) (E.view edge.old) (E.view edge.new) }
-    ensures paused { OnOk result (IsPaused delay (E.view edge.old).paused (E.view edge.new).paused) }
-    ensures within { OnErr result (IsPausedWithin delay (E.view edge.old).paused (E.view edge.new).paused) }
-    ensures front { OnErr result (WritesFront (L.sending link.old).sent (L.sending link.new).sent text.old.items) }
+    ensures front { OnErr result (SaysPieces (L.sending link.old).sent (L.sending link.new).sent (E.view edge.old).paused (E.view edge.new).paused text.old.items ((delay, encoding reply.now) ∷ [])) }
 {
     pause(link, edge, text, delay)?;
     match put_reply(text, reply) {
@@ -118,11 +115,9 @@ fn add_action<L: Link, E: Edge>(
     session: u64,
     action: &Action,
 ) -> Result<(), Failed>
-    ensures wrote { OnOk result (WritesBut (L.sending link.old).sent (L.sending link.new).sent text.old.items text.new.items (said_in session action.now)) }
+    ensures said { OnOk result (Says (L.sending link.old).sent (L.sending link.new).sent (E.view edge.old).paused (E.view edge.new).paused text.old.items text.new.items (pieces_of (replies_in (action.now ∷ []) session))) }
     ensures calls { OnlySays (IsErrOf result Fault) (L.left link.old) (L.left link.new) (L.faults link.old) (L.faults link.new) (E.view edge.old) (E.view edge.new) }
-    ensures paused { OnOk result (IsPaused (delay_in session action.now) (E.view edge.old).paused (E.view edge.new).paused) }
-    ensures within { OnErr result (IsPausedWithin (delay_in session action.now) (E.view edge.old).paused (E.view edge.new).paused) }
-    ensures front { OnErr result (WritesFront (L.sending link.old).sent (L.sending link.new).sent text.old.items) }
+    ensures front { OnErr result (SaysPieces (L.sending link.old).sent (L.sending link.new).sent (E.view edge.old).paused (E.view edge.new).paused text.old.items (pieces_of (replies_in (action.now ∷ []) session))) }
 {
     if let Action::Reply {
         session: to,
@@ -144,10 +139,9 @@ fn add_replies<L: Link, E: Edge>(
     text: &mut Vec<u8>,
     replies: &[(u32, Reply)],
 ) -> Result<(), Failed>
-    ensures wrote { OnOk result (WritesBut (L.sending link.old).sent (L.sending link.new).sent text.old.items text.new.items (encodings replies.now)) }
+    ensures said { OnOk result (Says (L.sending link.old).sent (L.sending link.new).sent (E.view edge.old).paused (E.view edge.new).paused text.old.items text.new.items (pieces_of replies.now)) }
     ensures calls { OnlySays (IsErrOf result Fault) (L.left link.old) (L.left link.new) (L.faults link.old) (L.faults link.new) (E.view edge.old) (E.view edge.new) }
-    ensures paused { OnOk result (IsPaused (delays replies.now) (E.view edge.old).paused (E.view edge.new).paused) }
-    ensures front { OnErr result (SaysFront (L.sending link.old).sent (L.sending link.new).sent (E.view edge.old).paused (E.view edge.new).paused text.old.items replies.now) }
+    ensures front { OnErr result (SaysPieces (L.sending link.old).sent (L.sending link.new).sent (E.view edge.old).paused (E.view edge.new).paused text.old.items (pieces_of replies.now)) }
 {
     for (delay, reply) in replies {
         add(link, edge, text, *delay, reply)?;
@@ -155,74 +149,38 @@ fn add_replies<L: Link, E: Edge>(
     Ok(())
 }
 
-// Adds the replies to the session among the actions.
-fn add_actions<L: Link, E: Edge>(
+// Adds what an entry says: the replies to the session among its actions, or that to an EPSV that is granted a port.
+fn add_entry<L: Link, E: Edge>(
     link: &mut L,
     edge: &mut E,
     text: &mut Vec<u8>,
     session: u64,
+    port: Option<u16>,
     actions: &[Action],
 ) -> Result<(), Failed>
-    ensures wrote { OnOk result (WritesBut (L.sending link.old).sent (L.sending link.new).sent text.old.items text.new.items (encodings (replies_in actions.now session))) }
+    ensures said { OnOk result (Says (L.sending link.old).sent (L.sending link.new).sent (E.view edge.old).paused (E.view edge.new).paused text.old.items text.new.items (entry_pieces session port actions.now)) }
     ensures calls { OnlySays (IsErrOf result Fault) (L.left link.old) (L.left link.new) (L.faults link.old) (L.faults link.new) (E.view edge.old) (E.view edge.new) }
-    ensures paused { OnOk result (IsPaused (delays (replies_in actions.now session)) (E.view edge.old).paused (E.view edge.new).paused) }
-    ensures front { OnErr result (SaysFront (L.sending link.old).sent (L.sending link.new).sent (E.view edge.old).paused (E.view edge.new).paused text.old.items (replies_in actions.now session)) }
+    ensures front { OnErr result (SaysPieces (L.sending link.old).sent (L.sending link.new).sent (E.view edge.old).paused (E.view edge.new).paused text.old.items (entry_pieces session port actions.now)) }
 {
-    for action in actions {
-        add_action(link, edge, text, session, action)?;
+    match port {
+        None => {
+            for action in actions {
+                add_action(link, edge, text, session, action)?;
+            }
+            Ok(())
+        }
+        Some(port) => match put_epsv_reply(text, port) {
+            Ok(()) => Ok(()),
+            Err(_) => Err(Failed::Memory),
+        },
     }
-    Ok(())
 }
 
-/// Says the earlier replies, and then those to the session among the actions.
+/// Says what is due on an entry: the earlier replies, and then those to the session among the actions; where a port is granted for
+/// an EPSV, the reply that shows it in place of those.
 ///
 /// Replies without a delay that stand side by side go in one write, where the link takes them so. The text is a buffer
 /// that may hold anything.
-pub(crate) fn say<L: Link, E: Edge>(
-    link: &mut L,
-    edge: &mut E,
-    text: &mut Vec<u8>,
-    session: u64,
-    earlier: &[(u32, Reply)],
-    actions: &[Action],
-) -> Result<(), Failed>
-    ensures wrote { OnOk result (Writes (L.sending link.old).sent (L.sending link.new).sent (encodings (said session earlier.now actions.now))) }
-    ensures calls { OnlySays (IsErrOf result Fault) (L.left link.old) (L.left link.new) (L.faults link.old) (L.faults link.new) (E.view edge.old) (E.view edge.new) }
-    ensures paused { OnOk result (IsPaused (delays (said session earlier.now actions.now)) (E.view edge.old).paused (E.view edge.new).paused) }
-
-    // After an error a part from the front was sent, each reply behind its delay.
-    ensures front { OnErr result (SaysFront (L.sending link.old).sent (L.sending link.new).sent (E.view edge.old).paused (E.view edge.new).paused [] (said session earlier.now actions.now)) }
-{
-    text.clear();
-    add_replies(link, edge, text, earlier)?;
-    add_actions(link, edge, text, session, actions)?;
-    flush(link, text)
-}
-
-// Says the earlier replies, and that to an EPSV that is granted a port.
-fn say_port<L: Link, E: Edge>(
-    link: &mut L,
-    edge: &mut E,
-    text: &mut Vec<u8>,
-    session: u64,
-    earlier: &[(u32, Reply)],
-    port: u16,
-) -> Result<(), Failed>
-    ensures wrote { OnOk result (Writes (L.sending link.old).sent (L.sending link.new).sent (piece_text (said_pieces session (Some port) earlier.now []))) }
-    ensures calls { OnlySays (IsErrOf result Fault) (L.left link.old) (L.left link.new) (L.faults link.old) (L.faults link.new) (E.view edge.old) (E.view edge.new) }
-    ensures paused { OnOk result (IsPaused (piece_delays (said_pieces session (Some port) earlier.now [])) (E.view edge.old).paused (E.view edge.new).paused) }
-    ensures front { OnErr result (SaysPieces (L.sending link.old).sent (L.sending link.new).sent (E.view edge.old).paused (E.view edge.new).paused [] (said_pieces session (Some port) earlier.now [])) }
-{
-    say(link, edge, text, session, earlier, &[])?;
-    text.clear();
-    let Ok(()) = put_epsv_reply(text, port) else {
-        return Err(Failed::Memory);
-    };
-    flush(link, text)
-}
-
-/// Says what is due on an entry: as `say`, but where a port is granted for an EPSV the reply that shows it in place of those
-/// among the actions.
 pub(crate) fn say_for<L: Link, E: Edge>(
     link: &mut L,
     edge: &mut E,
@@ -235,10 +193,12 @@ pub(crate) fn say_for<L: Link, E: Edge>(
     ensures wrote { OnOk result (Writes (L.sending link.old).sent (L.sending link.new).sent (piece_text (said_pieces session port earlier.now actions.now))) }
     ensures calls { OnlySays (IsErrOf result Fault) (L.left link.old) (L.left link.new) (L.faults link.old) (L.faults link.new) (E.view edge.old) (E.view edge.new) }
     ensures paused { OnOk result (IsPaused (piece_delays (said_pieces session port earlier.now actions.now)) (E.view edge.old).paused (E.view edge.new).paused) }
+
+    // After an error a part from the front was sent, each reply behind its delay.
     ensures front { OnErr result (SaysPieces (L.sending link.old).sent (L.sending link.new).sent (E.view edge.old).paused (E.view edge.new).paused [] (said_pieces session port earlier.now actions.now)) }
 {
-    match port {
-        None => say(link, edge, text, session, earlier, actions),
-        Some(port) => say_port(link, edge, text, session, earlier, port),
-    }
+    text.clear();
+    add_replies(link, edge, text, earlier)?;
+    add_entry(link, edge, text, session, port, actions)?;
+    flush(link, text)
 }

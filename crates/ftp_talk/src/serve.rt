@@ -46,7 +46,10 @@ impl ControlSession {
                 self.serve_line(desk, control, edge, auth, extras, line)
             }
             Got::Wait => self.tick(desk, control, edge),
-            Got::Long => self.serve_long(desk, control, edge),
+            Got::Long => {
+                let kind = self.too_long();
+                self.refuse(desk, control, edge, kind, Next::Close)
+            }
             Got::Full => Ok(Next::GoOn),
             Got::End => Ok(Next::GoOn),
         }

@@ -1,18 +1,19 @@
 //! A talk, line by line.
 
-ghost use Rattle.std.specs.Prelude.{◌≡◌, ◌≤◌, ◌++◌, [], ℕ, List, Option, true, false, Ok, Err, unwrap_or, IsErrOf};
+ghost use Rattle.std.specs.Prelude.{◌≡◌, ◌≤◌, ◌++◌, [], ℕ, List, Option, true, false, Ok, unwrap_or, IfOk, IsErrOf};
 ghost use Rattle.ftp_control.specs.declared.command.Command.TheVariants as command;
+ghost use Rattle.ftp_shared.specs.Outbox.{has_ticket};
 ghost use Rattle.ftp_control.specs.Line.{parsed};
 ghost use Rattle.ftp_control.specs.ControlLine.{IsLine};
 ghost use Rattle.ftp_talk.specs.Saying.{OnlyWrites};
 ghost use Rattle.ftp_talk.specs.declared.halt.Halt.TheVariants.{Exhausted, Fault};
-ghost use Rattle.ftp_talk.specs.Ground.{Ground};
+ghost use Rattle.ftp_talk.specs.Ground.{Step, Ground, line_of};
 ghost use Rattle.ftp_talk.specs.Turns.{LineDue};
 ghost use Rattle.ftp_extras.specs.Extra.{gives_password};
 ghost use Rattle.ftp_talk.specs.Commands.{is_in};
-ghost use Rattle.ftp_talk.specs.Parts.{HeardLine, is_epsv_line, is_heard_line};
-ghost use Rattle.ftp_talk.specs.Speaking.{IsHearing, IsHeardAs, HearsLines, ServesLines, Standing, StandsBehind, StandsBehindLine, due_at, IsAbout};
-ghost use Rattle.ftp_talk.specs.Serving.{is_out, next_of, behind_refusal};
+ghost use Rattle.ftp_talk.specs.Parts.{HeardLine, is_epsv_line};
+ghost use Rattle.ftp_talk.specs.Speaking.{IsHearing, IsHeardAs, HearsLines, MayRefuse, ServesLines, Standing, StandsBehind, StandsBehindLine, due_at, IsAbout};
+ghost use Rattle.ftp_talk.specs.Serving.{is_out, next_of};
 
 use crate::control_session::{ControlSession, is_end};
 use crate::halt::Halt;
@@ -22,6 +23,7 @@ use ftp_control::{Command, LineError, Password, cut_word, parse_line};
 use ftp_events::{Decision, EventKind, Login};
 use ftp_extras::{Asker, Extra, Extras};
 use ftp_shared::Desk;
+use std::alloc::AllocError;
 
 /// How serving a control connection ended.
 #[derive(Clone, Copy, Debug, PartialEq, Eq)]
@@ -54,16 +56,6 @@ pub(crate) fn next_of(decision: Decision, on: Next) -> Next
     ensures { result ≡ next_of decision on }
 {
     if is_end(decision) { Next::Over } else { on }
-}
-
-// What comes behind a line that was refused.
-fn behind_refusal(error: LineError) -> Next
-    ensures { result ≡ behind_refusal error }
-{
-    match error {
-        LineError::Utf8 => Next::Close,
-        _ => Next::GoOn,
-    }
 }
 
 // Says whether the user is logged in.
@@ -120,27 +112,28 @@ impl ControlSession {
         }
     }
 
-    // Answers a line that is refused and not heard.
-    fn serve_refusal<D: Desk, C: Control, E: Edge>(
+    // Refuses a line that is not heard, or one that is too long and stands next, by the event that tells so.
+    pub(crate) fn refuse<D: Desk, C: Control, E: Edge>(
         &mut self,
         desk: &mut D,
         control: &mut C,
         edge: &mut E,
-        error: LineError,
+        kind: Result<EventKind, AllocError>,
+        on: Next,
     ) -> Result<Next, Halt>
-        requires unheard { is_heard_line (Err error) ≡ false }
-        ensures served { (g : Ground) (hs : List HeardLine) (line rest : List ℕ) → IsAbout g D.vouches D.draws_next →
-            Standing LineDue g self.old (E.view edge.old) (D.view desk.old) (C.sending control.old).sent hs (line ++ rest) →
-            IsLine line → parsed line ≡ Err error →
+        requires unticketed { IfOk kind (λ k. has_ticket k ≡ false) }
+        ensures served { (g : Ground) (hs : List HeardLine) (step : Step) (rest : List ℕ) → IsAbout g D.vouches D.draws_next →
+            Standing LineDue g self.old (E.view edge.old) (D.view desk.old) (C.sending control.old).sent hs (line_of step ++ rest) →
+            MayRefuse g self.old step kind on rest →
             StandsBehind due_at result g self.new (E.view edge.new) (D.view desk.new) (C.sending control.new).sent hs rest }
         ensures control { OnlyWrites (IsErrOf result Fault) (C.left control.old) (C.left control.new) (C.faults control.old) (C.faults control.new) }
         ensures exhausted { IsErrOf result Exhausted → D.exhausts ≡ true }
     {
-        let Ok(kind) = self.refused_as(error) else {
+        let Ok(kind) = kind else {
             return Err(Halt::Memory);
         };
-        let decision = self.take_step(desk, control, edge, kind)?;
-        Ok(next_of(decision, behind_refusal(error)))
+        let decision = self.submit_for(desk, control, edge, kind, false)?;
+        Ok(next_of(decision, on))
     }
 
     // Serves a password: where it is out to be checked, the authenticator is asked.
@@ -162,12 +155,12 @@ impl ControlSession {
         let kind = EventKind::Pass {
             session: self.session,
         };
-        let decision = self.take_step(desk, control, edge, kind)?;
+        let decision = self.submit_for(desk, control, edge, kind, false)?;
         if is_out(decision) {
             let answer = self.ask_authenticator(auth, &password);
             let session = self.session;
             let kind = EventKind::AuthDone { session, answer };
-            let checked = self.take_step(desk, control, edge, kind)?;
+            let checked = self.submit_for(desk, control, edge, kind, false)?;
             return Ok(next_of(checked, Next::GoOn));
         }
         Ok(next_of(decision, Next::GoOn))
@@ -245,9 +238,13 @@ impl ControlSession {
                 command => self.serve_heard(desk, control, edge, extras, command, line, false),
             },
             Err(LineError::OutOfMemory) => Err(Halt::Memory),
-            Err(LineError::Utf8) => self.serve_refusal(desk, control, edge, LineError::Utf8),
+            Err(LineError::Utf8) => {
+                let kind = self.refused_as(LineError::Utf8);
+                self.refuse(desk, control, edge, kind, Next::Close)
+            }
             Err(LineError::InvalidEol) => {
-                self.serve_refusal(desk, control, edge, LineError::InvalidEol)
+                let kind = self.refused_as(LineError::InvalidEol);
+                self.refuse(desk, control, edge, kind, Next::GoOn)
             }
             Err(LineError::InvalidCommand) => {
                 let (word, _) = cut_word(line);

@@ -1,17 +1,16 @@
 //! One event, and what is said on it.
 
-ghost use Rattle.std.specs.Prelude.{◌≡◌, ◌⊎◌, ◌++◌, ℕ, List, false, true, IfErr, IfOk, OnErr, IsErrOf};
+ghost use Rattle.std.specs.Prelude.{◌≡◌, ◌⊎◌, List, false, true, IfErr, IfOk, OnErr, IsErrOf};
 ghost use Rattle.ftp_base.specs.Edge.{Takes, behind_moment};
 ghost use Rattle.ftp_base.specs.Outside.{HasRisen};
 ghost use Rattle.ftp_shared.specs.Outbox.{has_ticket};
 ghost use Rattle.ftp_shared.specs.Desk.{SameDesk};
 ghost use Rattle.ftp_talk.specs.Saying.{OnlyWrites};
 ghost use Rattle.ftp_talk.specs.declared.halt.Halt.TheVariants.{Exhausted, Fault, Memory};
-ghost use Rattle.ftp_talk.specs.Ground.{Step, Turn, Ground, line_of};
-ghost use Rattle.ftp_talk.specs.Parts.{HeardLine, epsv_port};
+ghost use Rattle.ftp_talk.specs.Ground.{Step, Turn, Ground};
+ghost use Rattle.ftp_talk.specs.Parts.{epsv_port};
 ghost use Rattle.ftp_talk.specs.Pieces.{Pieces};
-ghost use Rattle.ftp_talk.specs.Speaking.{Asking, Entered, IsSpoken, Standing, MayStep, StandsBehind, IsAbout};
-ghost use Rattle.ftp_talk.specs.Turns.{Due, due_by};
+ghost use Rattle.ftp_talk.specs.Speaking.{Asking, Entered, IsSpoken};
 
 use crate::control_session::ControlSession;
 use crate::halt::Halt;
@@ -93,23 +92,5 @@ impl ControlSession {
             Ok(()) => Ok(decision),
             Err(failed) => Err(Halt::from(failed)),
         }
-    }
-
-    // Takes a step of the talk on which no line is heard: nothing is asked for its event.
-    pub(crate) fn take_step<D: Desk, C: Control, E: Edge>(
-        &mut self,
-        desk: &mut D,
-        control: &mut C,
-        edge: &mut E,
-        kind: EventKind,
-    ) -> Result<Decision, Halt>
-        requires unticketed { has_ticket kind ≡ false }
-        ensures served { (g : Ground) (old : Due) (step : Step) (hs : List HeardLine) (rest : List ℕ) → IsAbout g D.vouches D.draws_next →
-            Standing old g self.old (E.view edge.old) (D.view desk.old) (C.sending control.old).sent hs (line_of step ++ rest) → MayStep g self.old old step kind rest →
-            StandsBehind (due_by step) result g self.new (E.view edge.new) (D.view desk.new) (C.sending control.new).sent hs rest }
-        ensures control { OnlyWrites (IsErrOf result Fault) (C.left control.old) (C.left control.new) (C.faults control.old) (C.faults control.new) }
-        ensures exhausted { IsErrOf result Exhausted → D.exhausts ≡ true }
-    {
-        self.submit_for(desk, control, edge, kind, false)
     }
 }

@@ -1,7 +1,13 @@
-use Rattle.std.proofs.Common.{◌≡◌, ◌∙◌, ℕ, List, ◌++◌, length, take, drop, ap, sym, subst, arith}
+use Rattle.std.proofs.Common.{◌≡◌, ◌∙◌, ℕ, List, ◌++◌, Option, length, take, drop, ap, sym, subst, arith}
 use Rattle.std.proofs.lemmas.List.{take-append-le, take_all}
 use Rattle.ftp_control.specs.ControlLine.{IsHeld, held_in}
-use Rattle.ftp_talk.specs.Speaking.{Talking}
+use Rattle.ftp_base.specs.Edge.{EdgeView}
+use Rattle.ftp_shared.specs.Desk.{DeskView}
+use Rattle.ftp_talk.specs.declared.control_session.ControlSession.{ControlSession}
+use Rattle.ftp_talk.specs.Extended.{TalkFrontHeard, TalkFrontWith}
+use Rattle.ftp_talk.specs.Ground.{Ground}
+use Rattle.ftp_talk.specs.Parts.{HeardLine, MayDoSo}
+use Rattle.ftp_talk.specs.Speaking.{HearsLines, IsCut, Talking}
 use Rattle.ftp_talk.proofs.ServeLemmas.{cut-here}
 use Rattle.ftp_talk.proofs.serve.serve_lines.Goals as goal
 
@@ -9,23 +15,19 @@ use Rattle.ftp_talk.proofs.serve.serve_lines.Goals as goal
 written_back : (n : ℕ) (xs ys : List ℕ) → length xs ≡ n → take n (xs ++ ys) ≡ xs
 written_back n xs ys len = take-append-le n xs ys (omega (arith, len)) ∙ take_all n xs (omega (arith, len))
 
+-- a talk is left between two lines
+left-lines : (g : Ground) (state : ControlSession) (edge edge1 : EdgeView) (desk desk1 : DeskView) (sent left : Option (List ℕ)) (held : List ℕ) (may0 may : MayDoSo) (first pending : Option (List ℕ)) →
+    ((hs : List HeardLine) → IsCut g state edge desk sent hs → TalkFrontHeard g edge1 desk1 sent hs) →
+    (hs : List HeardLine) × HearsLines may0 first may pending hs × Talking g state edge desk sent hs held left → TalkFrontWith may0 first g edge1 desk1 sent
+left-lines g state edge edge1 desk desk1 sent left held may0 may first pending leave t = (t.0, t.1.allowed, leave t.0 (cut-here g state edge desk sent _ t.0 _ t.2.standing))
+
 pub returns-then-is_err-clause-ended : goal.returns-then-is_err-clause-ended
 returns-then-is_err-clause-ended g c = λ q is first.
-    let t = c.loop.invariant.talking q is first in (
-      t.0,
-      t.1.allowed,
-      c.leave.ensures q t.0 (g.C.Source.sending c.loop.control).sent is.about
-          (cut-here q c.loop.state _ _ _ _ t.0 _ t.2.standing),
-    )
+    left-lines q c.loop.state _ _ _ _ _ _ _ _ _ _ _ (λ hs. c.leave.ensures q hs (g.C.Source.sending c.loop.control).sent is.about) (c.loop.invariant.talking q is first)
 
 pub returns-clause-ended : goal.returns-clause-ended
 returns-clause-ended g c = λ q is first.
-    let t = c.loop.invariant.talking q is first in (
-      t.0,
-      t.1.allowed,
-      c.leave-2.ensures q t.0 (g.C.Source.sending c.loop.control).sent is.about
-          (cut-here q c.loop.state _ _ _ _ t.0 _ t.2.standing),
-    )
+    left-lines q c.loop.state _ _ _ _ _ _ _ _ _ _ _ (λ hs. c.leave-2.ensures q hs (g.C.Source.sending c.loop.control).sent is.about) (c.loop.invariant.talking q is first)
 
 pub returns-in-Some-clause-ended : goal.returns-in-Some-clause-ended
 returns-in-Some-clause-ended g c = λ q is first.

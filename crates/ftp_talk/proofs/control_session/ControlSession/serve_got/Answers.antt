@@ -1,4 +1,6 @@
 use Rattle.std.proofs.Common.{◌∙◌}
+use Rattle.ftp_talk.specs.Ground.{ALongLine}
+use Rattle.ftp_talk.proofs.EndLemmas.{refuses-long}
 use Rattle.ftp_talk.proofs.HeardLemmas.{served-kept}
 use Rattle.ftp_talk.proofs.control_session.ControlSession.serve_got.Goals as goal
 
@@ -13,7 +15,8 @@ returns-in-Wait-clause-served g c = λ q x0 hs rest is hears s got.
 
 pub returns-in-Long-clause-served : goal.returns-in-Long-clause-served
 returns-in-Long-clause-served g c = λ q x0 hs rest is hears s got.
-    served-kept q _ _ _ _ rest c.serve_long.result _ _ _ _ hs hears (c.serve_long.ensures.served q hs rest is.about (rw c.in-Long.is at got) (rw c.in-Long.is at s))
+    served-kept q _ _ _ _ rest c.refuse.result _ _ _ _ hs hears
+    (c.refuse.ensures.served q hs ALongLine rest is.about (rw c.in-Long.is at s) (refuses-long q c.args.self.now _ rest c.too_long-kind.ensures.kind (rw c.in-Long.is at got)))
 
 pub returns-in-Full-clause-served : goal.returns-in-Full-clause-served
 returns-in-Full-clause-served g c = λ q x0 hs rest is hears s got. (hs, hears.allowed, hears, rw c.in-Full.is at s)

@@ -15,7 +15,7 @@ returns-in-Err-clause-spoke g c = λ q ts pieces step same a.
       front-before q c.args.self.now (g.E.Edge.view c.args.edge.now) (g.E.Edge.view c.submit.new.edge)
           (g.D.Desk.view c.args.desk.now) (g.D.Desk.view c.submit.new.desk) (g.C.Source.sending c.args.control.now).sent ts pieces c.args.kind
           a c.submit.ensures.taken.count c.submit.ensures.unpaused c.in-Err.ensures.refused,
-      risen-on _ _ _ a.refused c.in-Err.ensures.refused_rose c.in-Err.ensures.refused.refused,
+      risen-on _ _ _ a.after.refused c.in-Err.ensures.refused_rose c.in-Err.ensures.refused.refused,
     )
 
 pub returns-in_default-clause-spoke : goal.returns-in_default-clause-spoke

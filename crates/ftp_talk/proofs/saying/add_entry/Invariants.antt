@@ -1,0 +1,14 @@
+use Rattle.std.proofs.Common.{◌≡◌, ◌≤◌, take}
+use Rattle.ftp_base.specs.Edge.{Takes}
+use Rattle.ftp_shared.specs.Outbox.{replies_in}
+use Rattle.ftp_talk.specs.Pieces.{Says, pieces_of}
+use Rattle.ftp_talk.proofs.saying.add_entry.Given as goal
+
+-- what the actions so far say was said, or waits
+abbrev pub invariant-loop-action : goal.invariant-loop-action
+invariant-loop-action g l = record {
+  said : Says (g.L.Source.sending l.initial.link).sent (g.L.Source.sending l.link).sent (g.E.Edge.view l.initial.edge).paused (g.E.Edge.view l.edge).paused l.initial.text.items l.text.items (pieces_of (replies_in (take l.action-index l.actions) l.session));
+  left : g.L.Source.left l.link ≡ g.L.Source.left l.initial.link;
+  edge : Takes (λ f. f) (g.E.Edge.view l.initial.edge) (g.E.Edge.view l.edge);
+  count : g.L.Source.faults l.initial.link ≤ g.L.Source.faults l.link;
+}
