@@ -63,11 +63,7 @@ fn read_patiently<N: Net + Drop>(
     for _ in 0..u64::MAX {
         match stream.read(out) {
             Ok(n) => return Ok(n),
-            Err(e) if e.kind() == ErrorKind::Interrupted => {}
-            Err(e) if e.kind() == ErrorKind::WouldBlock => {
-                waits.wait_for(stream, Interest::READABLE)?
-            }
-            Err(e) => return Err(e),
+            Err(e) => waits.wait_after(e, stream, Interest::READABLE)?,
         }
     }
     Err(io::Error::from(ErrorKind::Other))
@@ -84,11 +80,7 @@ fn write_patiently<N: Net + Drop>(
     for _ in 0..u64::MAX {
         match stream.write(bytes) {
             Ok(n) => return Ok(n),
-            Err(e) if e.kind() == ErrorKind::Interrupted => {}
-            Err(e) if e.kind() == ErrorKind::WouldBlock => {
-                waits.wait_for(stream, Interest::WRITABLE)?
-            }
-            Err(e) => return Err(e),
+            Err(e) => waits.wait_after(e, stream, Interest::WRITABLE)?,
         }
     }
     Err(io::Error::from(ErrorKind::Other))

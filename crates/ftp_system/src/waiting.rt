@@ -88,12 +88,19 @@ impl<N: Net + Drop> Waits<N> {
         }
     }
 
-    /// Waits until the socket may go on in a direction. A wait in one direction is not ended by what comes in the other.
-    pub(crate) fn wait_for(
+    /// After a call that would block, waits until the socket may go on in a direction, and after one that a signal ended not at all;
+    /// any other error comes back. A wait in one direction is not ended by what comes in the other.
+    pub(crate) fn wait_after(
         &mut self,
+        error: io::Error,
         stream: &mut TcpStream,
         interest: Interest,
     ) -> io::Result<()> {
+        match error.kind() {
+            ErrorKind::Interrupted => return Ok(()),
+            ErrorKind::WouldBlock => {}
+            _ => return Err(error),
+        }
         if let Some(made) = &mut self.waiting {
             made.turn(stream, interest)?;
             return made.wait(self.limit);
