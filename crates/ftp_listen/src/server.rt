@@ -81,7 +81,15 @@ impl<S: Storage + Send + Drop + 'static> Server<S> {
             options,
             handlers: _,
         } = built;
-        fresh(alloc, options, parts)
+        Server {
+            alloc,
+            options,
+            limits: usual_limits(),
+            every: None,
+            parts,
+            feed: None,
+            runs_small: false,
+        }
     }
 
     /// A server without handlers of SITE commands.
