@@ -5,7 +5,7 @@ use crate::disk::{make_base, remove, storage, storage_within, write};
 use crate::same::same;
 use ftp_base::{Bytes, ErrorKind, StoreError};
 use ftp_disk::Budget;
-use ftp_extras::Archive;
+use ftp_extras::{Archive, is_moment};
 use std::alloc::Global;
 use std::process::Abort;
 
@@ -51,8 +51,14 @@ fn what_is_removed_or_replaced_gives_its_bytes_back(rt: HostRuntime) {
     remove(&rt, base.as_str());
 }
 
-/// A date of the file `/a`.
-fn set<S: Archive>(archive: &mut S, alloc: Global, date: &[u8]) -> Result<(), StoreError> {
+/// Gives the file `/a` a date.
+fn set<A: Abort, S: Archive>(
+    rt: &A,
+    archive: &mut S,
+    alloc: Global,
+    date: &[u8],
+) -> Result<(), StoreError> {
+    assert!(rt; is_moment(date));
     let ann = Bytes::from_slice(alloc, b"ann")?;
     let path = Bytes::from_slice(alloc, b"/a")?;
     archive.set_modified(&ann, &path, &Bytes::from_slice(alloc, date)?)
@@ -72,10 +78,14 @@ fn a_date_that_is_set_is_told(rt: HostRuntime) {
     let base = make_base(&rt, "dated").expect(&rt, "a base");
     write(&rt, rt.alloc(), base.as_str(), "/home/a", b"1");
     let mut disk = storage(rt, rt.alloc(), base.as_str());
-    same(&rt, &set(&mut disk, rt.alloc(), b"20240229235959"), &Ok(()));
     same(
         &rt,
-        &set(&mut disk, rt.alloc(), b"20230229000000"),
+        &set(&rt, &mut disk, rt.alloc(), b"20240229235959"),
+        &Ok(()),
+    );
+    same(
+        &rt,
+        &set(&rt, &mut disk, rt.alloc(), b"20230229000000"),
         &Err(NO_DATE),
     );
     same(
