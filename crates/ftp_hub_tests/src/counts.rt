@@ -90,7 +90,7 @@ impl PresenceListener for Noted {
 }
 
 /// What a listener for data and one for presence note of a log.
-fn noted(alloc: Global, log: &Log) -> (Vec<u64>, Vec<u64>) {
+fn numbers_noted(alloc: Global, log: &Log) -> (Vec<u64>, Vec<u64>) {
     let mut files = Noted {
         numbers: Vec::new(alloc),
     };
@@ -106,7 +106,7 @@ fn noted(alloc: Global, log: &Log) -> (Vec<u64>, Vec<u64>) {
 #[test]
 fn each_listener_hears_what_is_for_it(rt: HostRuntime) {
     let log = log_of(&rt, rt.alloc(), pooled(&rt, rt.alloc()), DOWNLOAD);
-    let (files, users) = noted(rt.alloc(), &log);
+    let (files, users) = numbers_noted(rt.alloc(), &log);
     let due = ([2].as_slice(), [1].as_slice());
     same(&rt, &(files.as_slice(), users.as_slice()), &due);
 }
