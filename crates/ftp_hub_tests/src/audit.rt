@@ -49,7 +49,7 @@ fn has_total(audit: &Audit, ann: &Bytes, row: &Stretch) -> bool {
         logins,
         ..Total::new()
     };
-    audit.between(ann, from, to) == told
+    from <= to && audit.between(ann, from, to) == told
 }
 
 #[test]

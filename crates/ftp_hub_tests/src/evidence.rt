@@ -51,11 +51,11 @@ fn told(rt: &impl Abort, alloc: Global, options: &Options, log: &Log, k: u64) ->
 /// The place of an entry, and its printed evidence.
 type Row = (u64, &'static [u8]);
 
-/// Compares the printed evidence for entries of the log of a login and of these lines.
-fn compare(rt: &impl Abort, alloc: Global, lines: &[&[u8]], rows: &[Row]) {
+/// Compares the printed evidence for entries of the log of these lines.
+fn compare(rt: &impl Abort, alloc: Global, lines: &[&[&[u8]]], rows: &[Row]) {
     let options = pooled(rt, alloc);
     let copy = options.copy(alloc).expect(rt, "options");
-    let log = log_of(rt, alloc, copy, &[ANN, lines]);
+    let log = log_of(rt, alloc, copy, lines);
     for (k, text) in rows {
         same(rt, &told(rt, alloc, &options, &log, *k).as_slice(), text);
     }
@@ -65,7 +65,7 @@ const OF_GRANTS: [Row; 2] = [(13, b"plain"), (14, b"full 12 13")];
 
 #[test]
 fn a_full_range_names_the_grant_of_each_port(rt: HostRuntime) {
-    compare(&rt, rt.alloc(), FULL, &OF_GRANTS);
+    compare(&rt, rt.alloc(), &[ANN, FULL], &OF_GRANTS);
 }
 
 const OF_CONNECTIONS: [Row; 5] = [
@@ -78,5 +78,5 @@ const OF_CONNECTIONS: [Row; 5] = [
 
 #[test]
 fn a_connection_names_the_grant_or_the_release_of_its_port(rt: HostRuntime) {
-    compare(&rt, rt.alloc(), COMING_AND_GOING, &OF_CONNECTIONS);
+    compare(&rt, rt.alloc(), &[ANN, COMING_AND_GOING], &OF_CONNECTIONS);
 }

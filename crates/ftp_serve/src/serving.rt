@@ -11,7 +11,7 @@ use ftp_listen::{Parts, Server};
 use ftp_options::{ListenerMode, Options, ServerBuilder, ServerError};
 use ftp_shared::JournalFeed;
 use ftp_system::{NeverAsks, ServerRuntime};
-use std::alloc::{AllocError, Global};
+use std::alloc::Global;
 use std::io::Write;
 use std::sync::Arc;
 use std::thread;
@@ -48,17 +48,6 @@ fn options(alloc: Global, service: Service) -> Result<Options, ServerError>
     }
 }
 
-// Everybody may log in, nobody is told, and no shutdown is asked for.
-fn parts_for_all(alloc: Global) -> Result<Parts<MemoryStorage>, AllocError> {
-    Ok(Parts {
-        authenticator: Box::new(alloc, SameAnswer(AuthAnswer::Good))?,
-        data_listener: Box::new(alloc, NopListener)?,
-        presence_listener: Box::new(alloc, NopListener)?,
-        indicator: Box::new(alloc, NeverAsks)?,
-        storage: MemoryStorage::new(alloc, MAX_FILE, Vec::new(alloc)),
-    })
-}
-
 /// Listens at the address that the first word says. Everybody may log in, nobody is told but the feed of the journal, where there
 /// is one, and no shutdown is asked for.
 pub fn serve<R: ServerRuntime>(
@@ -72,8 +61,20 @@ pub fn serve<R: ServerRuntime>(
     let Some(address) = words.first() else {
         return Err(ServerError::Address);
     };
-    let Ok(parts) = parts_for_all(alloc) else {
+    let (Ok(authenticator), Ok(data_listener), Ok(presence_listener), Ok(indicator)) = (
+        Box::new(alloc, SameAnswer(AuthAnswer::Good)),
+        Box::new(alloc, NopListener),
+        Box::new(alloc, NopListener),
+        Box::new(alloc, NeverAsks),
+    ) else {
         return Err(ServerError::OutOfMemory);
+    };
+    let parts = Parts {
+        authenticator,
+        data_listener,
+        presence_listener,
+        indicator,
+        storage: MemoryStorage::new(alloc, MAX_FILE, Vec::new(alloc)),
     };
     let mut server = Server::with_options(alloc, options, parts);
     if let Some(every) = service.every {
