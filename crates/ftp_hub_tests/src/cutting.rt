@@ -68,17 +68,15 @@ pub fn tail_over<R: Wait + Abort>(
     connect_over::<Brand, R>(rt, alloc, options, every, events)
 }
 
-fn hand_late<L: Serving, R: Wait + Abort>(rt: &R, alloc: Global, options: Options) -> Replies
-    requires options { options ≡ L.options }
+// An event of moment 0, of whose entry nothing is asked.
+fn happen<L: Serving, R: Wait + Abort>(rt: &R, hub: &CutHub<L>, kind: EventKind)
+    requires { has_ticket kind ≡ false }
 {
-    let hub = CutHub::<L>::new(alloc, options, 2);
-    let session = 1000;
-    submit(rt, &hub, connect(session));
-    let name = Bytes::from_slice(alloc, b"ann").expect(rt, "a name");
-    submit(rt, &hub, EventKind::User { session, name });
-    for _ in 0..5 {
-        submit(rt, &hub, connect(hub.draw()));
-    }
+    submit(rt, hub, kind);
+}
+
+// What a session is handed at its next event.
+fn handed_next<L: Serving, R: Wait + Abort>(rt: &R, hub: &CutHub<L>, session: u64) -> Replies {
     let event = HubEvent {
         at: 0,
         kind: EventKind::IdleTick { session },
@@ -90,6 +88,20 @@ fn hand_late<L: Serving, R: Wait + Abort>(rt: &R, alloc: Global, options: Option
         .submit_for(rt, &mut (), event, Answer::None)
         .expect(rt, "a turn");
     earlier
+}
+
+fn hand_late<L: Serving, R: Wait + Abort>(rt: &R, alloc: Global, options: Options) -> Replies
+    requires options { options ≡ L.options }
+{
+    let hub = CutHub::<L>::new(alloc, options, 2);
+    let session = 1000;
+    happen(rt, &hub, connect(session));
+    let name = Bytes::from_slice(alloc, b"ann").expect(rt, "a name");
+    happen(rt, &hub, EventKind::User { session, name });
+    for _ in 0..5 {
+        happen(rt, &hub, connect(hub.draw()));
+    }
+    handed_next(rt, &hub, session)
 }
 
 /// What a session is handed that gave its name before the last checkpoints, of which there is one after each second entry.

@@ -17,7 +17,7 @@ use std::process::Abort;
 use std::sync::Wait;
 
 /// One event of a session.
-pub fn act<L: Serving, R: Wait + Abort>(
+fn act<L: Serving, R: Wait + Abort>(
     rt: &R,
     hub: &SharedHub<L>,
     share: &mut StepShare<L>,
@@ -29,6 +29,18 @@ pub fn act<L: Serving, R: Wait + Abort>(
         .expect(rt, "a turn")
 }
 
+/// One event of a session, of whose turn nothing is asked.
+pub fn happen<L: Serving, R: Wait + Abort>(
+    rt: &R,
+    hub: &SharedHub<L>,
+    share: &mut StepShare<L>,
+    kind: EventKind,
+)
+    requires { has_ticket kind ≡ false }
+{
+    act(rt, hub, share, kind);
+}
+
 /// A session logs in.
 fn log_in<L: Serving, R: Wait + Abort>(
     rt: &R,
@@ -37,12 +49,12 @@ fn log_in<L: Serving, R: Wait + Abort>(
     share: &mut StepShare<L>,
     session: u64,
 ) {
-    act(rt, hub, share, connect(session));
+    happen(rt, hub, share, connect(session));
     let name = Bytes::from_slice(alloc, b"ann").expect(rt, "a name");
-    act(rt, hub, share, EventKind::User { session, name });
-    act(rt, hub, share, EventKind::Pass { session });
+    happen(rt, hub, share, EventKind::User { session, name });
+    happen(rt, hub, share, EventKind::Pass { session });
     let answer = AuthAnswer::Good;
-    act(rt, hub, share, EventKind::AuthDone { session, answer });
+    happen(rt, hub, share, EventKind::AuthDone { session, answer });
 }
 
 /// A session gets a data connection.
@@ -58,7 +70,7 @@ fn get_connection<L: Serving, R: Wait + Abort>(
         lookup: None,
         bound: None,
     };
-    act(rt, hub, share, pasv);
+    happen(rt, hub, share, pasv);
     let arrival = EventKind::DataIn {
         number: session | 16,
         raw: SocketAddr {
@@ -67,7 +79,7 @@ fn get_connection<L: Serving, R: Wait + Abort>(
         },
         port: 50000,
     };
-    act(rt, hub, share, arrival);
+    happen(rt, hub, share, arrival);
 }
 
 /// A session logs in, gets a data connection and asks for the file `a`.
@@ -109,25 +121,36 @@ pub fn finish<L: Serving, R: Wait + Abort>(
         .expect(rt, "the end of a job")
 }
 
-/// The journal of a session that takes a file. Its job is out while the session goes on, or the server is stopped; then comes the
-/// session's last event, if the stop was not that.
-pub fn take_a_file<L: Serving, R: Wait + Abort>(
+/// What session 1 is handed when it quits.
+fn handed_at_quit<L: Serving, R: Wait + Abort>(
     rt: &R,
     alloc: Global,
-    hub: SharedHub<L>,
-    stops_early: bool,
-) -> Result<Log, SettleError> {
-    let mut share = share(rt, &hub);
-    let job = start(rt, alloc, &hub, &mut share, 1);
-    if stops_early {
-        act(rt, &hub, &mut share, EventKind::Shutdown);
-    }
-    let drained_early = hub.drained(rt);
-    let woken = finish(rt, &hub, &mut share, job, 5).others().next();
+    hub: &SharedHub<L>,
+    share: &mut StepShare<L>,
+) -> Vec<u8> {
     let Turn {
         earlier,
         submitted: _,
-    } = act(rt, &hub, &mut share, EventKind::Quit { session: 1 });
+    } = act(rt, hub, share, EventKind::Quit { session: 1 });
+    sent_at_once(alloc, &earlier).expect(rt, "a text")
+}
+
+/// A session takes a file. Its job is out while the session goes on, or the server is stopped; then comes the session's last event,
+/// if the stop was not that.
+fn go_on_beside_a_job<L: Serving, R: Wait + Abort>(
+    rt: &R,
+    alloc: Global,
+    hub: &SharedHub<L>,
+    share: &mut StepShare<L>,
+    stops_early: bool,
+) {
+    let job = start(rt, alloc, hub, share, 1);
+    if stops_early {
+        happen(rt, hub, share, EventKind::Shutdown);
+    }
+    let drained_early = hub.drained(rt);
+    let woken = finish(rt, hub, share, job, 5).others().next();
+    let sent = handed_at_quit(rt, alloc, hub, share);
     // A session that the stop has ended is handed nothing more.
     let (to_wake, handed) = if stops_early {
         (None, b"".as_slice())
@@ -139,7 +162,17 @@ pub fn take_a_file<L: Serving, R: Wait + Abort>(
         &(drained_early, woken, hub.drained(rt)),
         &(false, to_wake, true),
     );
-    let sent = sent_at_once(alloc, &earlier).expect(rt, "a text");
     same(rt, &sent.as_slice(), &handed);
+}
+
+/// The journal of a session that takes a file, and goes on or is stopped while its job is out.
+pub fn take_a_file<L: Serving, R: Wait + Abort>(
+    rt: &R,
+    alloc: Global,
+    hub: SharedHub<L>,
+    stops_early: bool,
+) -> Result<Log, SettleError> {
+    let mut share = share(rt, &hub);
+    go_on_beside_a_job(rt, alloc, &hub, &mut share, stops_early);
     hub.settle(vec![in alloc; share].expect(rt, "shares"), &[])
 }

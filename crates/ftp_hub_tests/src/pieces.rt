@@ -1,7 +1,7 @@
 //! Two jobs move piece by piece, each by a thread of its own, while a third thread stops one of them.
 
 use crate::hubs::share;
-use crate::jobs::{act, finish, start};
+use crate::jobs::{finish, happen, start};
 use crate::same::{holds, same};
 use ftp_events::{Action, Decision, EventKind, Log};
 use ftp_shared::{JobShare, JournalHub, Serving, SettleError, SharedHub, StepShare, Submitted};
@@ -67,7 +67,7 @@ fn move_to_end<L: Serving, R: Wait + Abort>(
 /// Stops the job of session 1.
 fn abort<L: Serving, R: Wait + Abort>(rt: &R, hub: &SharedHub<L>) -> StepShare<L> {
     let mut share = share(rt, hub);
-    act(rt, hub, &mut share, EventKind::Abor { session: 1 });
+    happen(rt, hub, &mut share, EventKind::Abor { session: 1 });
     share
 }
 
