@@ -5,13 +5,16 @@
 
 The words go to `rt ci`, whose output and status are its own. Each second it looks at the checks that run below it and adds up
 their processor time, so what begins and ends between two looks is missed. With --table the rows are those of bench/RESULTS.md.
+Once a minute it takes a yardstick, by which the seconds of two machines, or of two days on one, can be compared.
 """
 
 import os
 import re
+import statistics
 import subprocess
 import sys
 import threading
+import time
 from collections import Counter
 from pathlib import Path
 
@@ -34,11 +37,19 @@ def kind_of(words):
     return crate, KINDS[2] if "rt-edits-" in " ".join(words) else KINDS[1] if "--test" in words else KINDS[0]
 
 
+def yardstick():
+    """What a million additions take, in seconds of processor time."""
+    began, total = time.thread_time(), 0
+    for number in range(1_000_000):
+        total += number
+    return time.thread_time() - began
+
+
 class Watch:
-    """What the processes of one session have taken, by crate and kind."""
+    """What the processes of one session have taken, by crate and kind, and the yardsticks meanwhile."""
 
     def __init__(self, session):
-        self.session, self.seconds, self.spent = session, {}, Counter()
+        self.session, self.seconds, self.spent, self.yardsticks = session, {}, Counter(), [yardstick()]
 
     def look(self):
         for entry in os.listdir("/proc"):
@@ -59,8 +70,12 @@ class Watch:
             self.seconds[name] = took
 
     def until(self, ended):
+        looks = 0
         while not ended.wait(1):
             self.look()
+            looks += 1
+            if looks % 60 == 0:
+                self.yardsticks.append(yardstick())
 
     def table(self):
         crates = sorted({crate for crate, _ in self.spent}, key=lambda crate: -sum(self.spent[crate, kind] for kind in KINDS))
@@ -81,6 +96,7 @@ def main():
     ended.set()
     looker.join()
     table = watch.table()
+    print(f"yardstick: {statistics.median(watch.yardsticks):.3f} s")
     print(table if "--table" in sys.argv[1:] else re.sub(r"[|`]", " ", table))
     return status
 
