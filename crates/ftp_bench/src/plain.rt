@@ -29,9 +29,7 @@ pub fn run_all(alloc: Global, options: Options, lane: Lane, keeps: bool) -> Resu
     ensures taken { IfOk result (λ n. n ≡ events_in lane) }
 {
     let mut plain = Plain::new(alloc, options, keeps);
-    plain.connect_all(lane)?;
-    plain.ask_all(lane)?;
-    Ok(plain.taken())
+    plain.run(lane)
 }
 
 impl Plain {
@@ -58,6 +56,16 @@ impl Plain {
         } else {
             self.hub.events()
         }
+    }
+
+    /// Runs the events of a lane whose sessions connect first, on a hub to which nothing has happened.
+    fn run(&mut self, lane: Lane) -> Result<u64, BenchError>
+        requires idle { taken self.old ≡ 0 }
+        ensures taken { IfOk result (λ n. n ≡ events_in lane) }
+    {
+        self.connect_all(lane)?;
+        self.ask_all(lane)?;
+        Ok(self.taken())
     }
 
     /// Lets the sessions of a lane connect.

@@ -63,8 +63,22 @@ fn serve<L: Serving>(alloc: Global, options: Options, blank: Blank, client: &mut
     requires two { blank.parts ≡ 2 }
     requires options { options ≡ L.options }
 {
+    let mut desk = desk_by_itself::<L>(alloc, options, blank);
+    serve_over(alloc, &mut desk, client)
+}
+
+/// A desk on the server that a blank is for, with no files.
+fn desk_by_itself<L: Serving>(
+    alloc: Global,
+    options: Options,
+    blank: Blank,
+) -> SoloDesk<L, MemoryStorage>
+    requires name { blank.name ≡ L.name }
+    requires parts { blank.parts ≡ L.parts }
+    requires two { blank.parts ≡ 2 }
+    requires options { options ≡ L.options }
+{
     let (steps, parts) = blank.open::<L>();
     let storage = MemoryStorage::new(alloc, 0, Vec::new(alloc));
-    let mut desk = SoloDesk::new(alloc, options, storage, steps, parts, 2);
-    serve_over(alloc, &mut desk, client)
+    SoloDesk::new(alloc, options, storage, steps, parts, 2)
 }

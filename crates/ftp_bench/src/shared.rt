@@ -1,14 +1,15 @@
 //! Threads over one hub, each with a share and a lane of its own.
 
-ghost use Rattle.std.specs.Prelude.{◌≡◌, ◌+◌, ◌-◌, ◌<◌, ◌≤◌, sum_by, IfOk};
+ghost use Rattle.std.specs.Prelude.{◌≡◌, ◌+◌, ◌-◌, ◌<◌, ◌≤◌, false, length, sum_by, IfOk, OnOk};
 ghost use Rattle.std.specs.Vec.{vec_len};
+ghost use Rattle.ftp_shared.specs.Outbox.{has_ticket};
 ghost use Rattle.ftp_bench.specs.Appending.{events_in, threads_of};
 
 use crate::asking::{connect, user};
 use crate::command::Crew;
 use crate::error::BenchError;
 use crate::lane::Lane;
-use ftp_events::Answer;
+use ftp_events::{Answer, HubEvent, Log};
 use ftp_options::Options;
 use ftp_shared::{JournalHub, Serving, SettleError, SharedHub, StepShare};
 use std::alloc::Global;
@@ -64,17 +65,23 @@ fn settle<L: Serving>(
     ensures taken { IfOk result (λ n. n ≡ events_in lane) }
 {
     match hub.settle(shares, &[]) {
-        Ok(log) => {
-            let taken = log.len();
-            if taken > lane.events() {
-                return Err(BenchError::Others);
-            }
-            Ok(taken)
-        }
+        Ok(log) => taken_of(&log, lane),
         // All shares that were given out are here.
         Err(SettleError::Missing { .. }) => unreachable!(),
         Err(_) => Err(BenchError::OutOfMemory),
     }
+}
+
+/// How many entries a journal has that counts the events of a lane and no more.
+fn taken_of(log: &Log, lane: Lane) -> Result<u64, BenchError>
+    requires no_fewer { events_in lane ≤ length log.now.entries }
+    ensures taken { IfOk result (λ n. n ≡ events_in lane) }
+{
+    let taken = log.len();
+    if taken > lane.events() {
+        return Err(BenchError::Others);
+    }
+    Ok(taken)
 }
 
 /// The shares of so many threads that submit the events of a lane.
@@ -93,33 +100,66 @@ fn work<L: Serving + Send + Sync, R: Threads + Wait + Sync>(
     ensures counted { IfOk result (λ shares. sum_by (λ s. s.count) shares.items ≡ events_in lane) }
 {
     match crew {
-        Crew::One => {
-            let share = connect_all(rt, hub, lane)?;
-            let share = ask_all(rt, alloc, hub, share, lane)?;
-            let mut shares = Vec::with_capacity(alloc, 1)?;
-            shares.push_reserved(share);
-            Ok(shares)
-        }
-        Crew::Two => {
-            let pair = (connect_all(rt, hub, lane)?, fresh(rt, hub)?);
-            let (first, second) = ask_two(rt, alloc, hub, pair, lane)?;
-            let mut shares = Vec::with_capacity(alloc, 2)?;
-            shares.push_reserved(first);
-            shares.push_reserved(second);
-            Ok(shares)
-        }
-        Crew::Four => {
-            let front = (connect_all(rt, hub, lane)?, fresh(rt, hub)?);
-            let back = (fresh(rt, hub)?, fresh(rt, hub)?);
-            let (front, back) = ask_four(rt, alloc, hub, front, back, lane)?;
-            let mut shares = Vec::with_capacity(alloc, 4)?;
-            shares.push_reserved(front.0);
-            shares.push_reserved(front.1);
-            shares.push_reserved(back.0);
-            shares.push_reserved(back.1);
-            Ok(shares)
-        }
+        Crew::One => work_alone(rt, alloc, hub, lane),
+        Crew::Two => work_in_two(rt, alloc, hub, lane),
+        Crew::Four => work_in_four(rt, alloc, hub, lane),
     }
+}
+
+/// The share of one thread that submits the events of a lane.
+fn work_alone<L: Serving, R: Wait>(
+    rt: &R,
+    alloc: Global,
+    hub: &SharedHub<L>,
+    lane: Lane,
+) -> Result<Vec<StepShare<L>>, BenchError>
+    ensures threads { IfOk result (λ shares. vec_len shares ≡ 1) }
+    ensures counted { IfOk result (λ shares. sum_by (λ s. s.count) shares.items ≡ events_in lane) }
+{
+    let share = connect_all(rt, hub, lane)?;
+    let share = ask_all(rt, alloc, hub, share, lane)?;
+    let mut shares = Vec::with_capacity(alloc, 1)?;
+    shares.push_reserved(share);
+    Ok(shares)
+}
+
+/// The shares of two threads that submit the events of a lane.
+fn work_in_two<L: Serving + Send + Sync, R: Threads + Wait + Sync>(
+    rt: &R,
+    alloc: Global,
+    hub: &SharedHub<L>,
+    lane: Lane,
+) -> Result<Vec<StepShare<L>>, BenchError>
+    ensures threads { IfOk result (λ shares. vec_len shares ≡ 2) }
+    ensures counted { IfOk result (λ shares. sum_by (λ s. s.count) shares.items ≡ events_in lane) }
+{
+    let pair = (connect_all(rt, hub, lane)?, fresh(rt, hub)?);
+    let (first, second) = ask_two(rt, alloc, hub, pair, lane)?;
+    let mut shares = Vec::with_capacity(alloc, 2)?;
+    shares.push_reserved(first);
+    shares.push_reserved(second);
+    Ok(shares)
+}
+
+/// The shares of four threads that submit the events of a lane.
+fn work_in_four<L: Serving + Send + Sync, R: Threads + Wait + Sync>(
+    rt: &R,
+    alloc: Global,
+    hub: &SharedHub<L>,
+    lane: Lane,
+) -> Result<Vec<StepShare<L>>, BenchError>
+    ensures threads { IfOk result (λ shares. vec_len shares ≡ 4) }
+    ensures counted { IfOk result (λ shares. sum_by (λ s. s.count) shares.items ≡ events_in lane) }
+{
+    let front = (connect_all(rt, hub, lane)?, fresh(rt, hub)?);
+    let back = (fresh(rt, hub)?, fresh(rt, hub)?);
+    let (front, back) = ask_four(rt, alloc, hub, front, back, lane)?;
+    let mut shares = Vec::with_capacity(alloc, 4)?;
+    shares.push_reserved(front.0);
+    shares.push_reserved(front.1);
+    shares.push_reserved(back.0);
+    shares.push_reserved(back.1);
+    Ok(shares)
 }
 
 /// A share with no step counted.
@@ -132,6 +172,20 @@ fn fresh<L: Serving, R: Wait>(rt: &R, hub: &SharedHub<L>) -> Result<StepShare<L>
     }
 }
 
+/// Submits an event whose turn nobody looks at.
+fn submit<L: Serving, R: Wait>(
+    rt: &R,
+    hub: &SharedHub<L>,
+    share: &mut StepShare<L>,
+    event: HubEvent,
+) -> Result<(), BenchError>
+    requires unticketed { has_ticket event.kind ≡ false }
+    ensures counted { OnOk result (share.new.count ≡ share.old.count + 1) }
+{
+    hub.submit_for(rt, share, event, Answer::None)?;
+    Ok(())
+}
+
 /// Lets the sessions of a lane connect, and gives the share that counted them.
 fn connect_all<L: Serving, R: Wait>(
     rt: &R,
@@ -142,7 +196,7 @@ fn connect_all<L: Serving, R: Wait>(
 {
     let mut share = fresh(rt, hub)?;
     for session in lane.first..lane.end {
-        hub.submit_for(rt, &mut share, connect(session as u64), Answer::None)?;
+        submit(rt, hub, &mut share, connect(session as u64))?;
     }
     Ok(share)
 }
@@ -159,8 +213,7 @@ fn ask_all<L: Serving, R: Wait>(
 {
     let mut share = share;
     for turn in 0..lane.rounds {
-        let event = user(alloc, lane.session(turn))?;
-        hub.submit_for(rt, &mut share, event, Answer::None)?;
+        submit(rt, hub, &mut share, user(alloc, lane.session(turn))?)?;
     }
     Ok(share)
 }

@@ -46,20 +46,37 @@ impl Budgets {
         before: &Budgets,
     ) -> Result<Budgets, AllocError> {
         let sizes = sizes(alloc, users)?;
+        let budgets = Budgets::over(system, alloc, &sizes, before)?;
+        budgets.set(rt, &sizes);
+        Ok(budgets)
+    }
+
+    // A budget for each directory, as it was before or begun.
+    fn over<S: FileSystem>(
+        system: &S,
+        alloc: Global,
+        sizes: &BTreeMap<Vec<u8>, u64>,
+        before: &Budgets,
+    ) -> Result<Budgets, AllocError> {
         let mut by_root = BTreeMap::new(alloc);
         for (root, bytes) in sizes.iter() {
+            let name = Vec::from_slice(alloc, root.as_slice())?;
             let budget = match before.by_root.get(root.as_slice()) {
                 Some(budget) => budget.share()?,
                 None => begun(system, alloc, root.as_slice(), *bytes)?,
             };
-            by_root.insert(Vec::from_slice(alloc, root.as_slice())?, budget)?;
+            by_root.insert(name, budget)?;
         }
-        for (root, budget) in by_root.iter() {
+        Ok(Budgets { by_root })
+    }
+
+    // Each budget holds as many bytes as its directory may have now.
+    fn set<R: Wait>(&self, rt: &R, sizes: &BTreeMap<Vec<u8>, u64>) {
+        for (root, budget) in self.by_root.iter() {
             if let Some(bytes) = sizes.get(root.as_slice()) {
                 budget.set(rt, *bytes);
             }
         }
-        Ok(Budgets { by_root })
     }
 
     /// The budget of a directory, if it has one.

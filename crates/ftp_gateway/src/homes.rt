@@ -58,10 +58,20 @@ pub fn clear_homes<S: FileSystem>(
     for (_, user) in users.iter() {
         let root = user.home.as_str().as_bytes();
         if is_writer(user.rights) && !cleared.contains_key(root) {
-            let home = home(alloc, user, &budgets)?;
-            remove_leftovers(system, alloc, &home)?;
+            clear_home(system, alloc, user, &budgets)?;
             cleared.insert(Vec::from_slice(alloc, root)?, ())?;
         }
     }
     Ok(())
+}
+
+// Removes what uploads left in the home of a user.
+fn clear_home<S: FileSystem>(
+    system: &S,
+    alloc: Global,
+    user: &User,
+    budgets: &Budgets,
+) -> Result<(), AllocError> {
+    let home = home(alloc, user, budgets)?;
+    remove_leftovers(system, alloc, &home)
 }

@@ -226,8 +226,8 @@ struct Counting<R: Wait + Copy + Drop> {
 fn make_counting<R: GatewayRuntime>(
     rt: &R,
     config: &GatewayConfig,
-    users: CurrentUsers<R>,
-    records: Arc<RecordFiles<R>, Global>,
+    users: &CurrentUsers<R>,
+    records: &Records<R>,
 ) -> Result<Counting<R>, Refusal> {
     let alloc = rt.alloc();
     let activity = Activity::new(alloc)?;
@@ -236,14 +236,25 @@ fn make_counting<R: GatewayRuntime>(
     let waiting = shared(alloc, Mutex::new(Vec::new(alloc)))?;
     let theirs = Arc::try_clone(&waiting)?;
     Ok(Counting {
-        control: control_of(rt, config, users, activity, records, theirs)?,
+        control: control_of(rt, config, users.share()?, activity, records.files()?, theirs)?,
         transfers,
         logins,
         waiting,
     })
 }
 
-// A gateway over users.
+// What a gateway asks whether a password is right, and where it keeps files, over users.
+fn services_over<R: GatewayRuntime>(
+    rt: &R,
+    config: &GatewayConfig,
+    options: &Options,
+    users: &CurrentUsers<R>,
+) -> Result<(PasswordCheck<R, CurrentUsers<R>>, HomeDepot<R>), AllocError> {
+    let depot = depot_of(rt, config, options, users)?;
+    Ok((check_by(rt, users)?, depot))
+}
+
+// A gateway over users. Its control socket, which others see, is made last.
 fn gateway_over<R: GatewayRuntime>(
     rt: &R,
     config: &GatewayConfig,
@@ -252,25 +263,33 @@ fn gateway_over<R: GatewayRuntime>(
     users: &CurrentUsers<R>,
 ) -> Result<Gateway<R>, Refusal> {
     let alloc = rt.alloc();
-    let depot = depot_of(rt, config, &options, users)?;
-    let check = check_by(rt, users)?;
-    let Counting {
-        control,
-        transfers,
-        logins,
-        waiting,
-    } = make_counting(rt, config, users.share()?, records.files()?)?;
+    let feed = shared(alloc, JournalFeed::new(alloc, MOST_WAITING))?;
+    let plan = make_plan(alloc, config, options)?;
+    let (check, depot) = services_over(rt, config, &plan.options, users)?;
+    let counting = make_counting(rt, config, users, &records)?;
     Ok(Gateway {
-        plan: make_plan(alloc, config, options)?,
+        plan,
         check,
         depot,
-        control,
-        transfers,
-        logins,
+        control: counting.control,
+        transfers: counting.transfers,
+        logins: counting.logins,
         records,
-        feed: shared(alloc, JournalFeed::new(alloc, MOST_WAITING))?,
-        waiting,
+        feed,
+        waiting: counting.waiting,
     })
+}
+
+// The gateway of a configuration, with the users that its file lists.
+fn gateway_of<R: GatewayRuntime>(
+    rt: &R,
+    config: &GatewayConfig,
+    options: Options,
+    users: Users,
+) -> Result<Gateway<R>, Refusal> {
+    let records = Records::open(*rt, config, &options)?;
+    let users = first_users(rt, config.whole_uploads, users)?;
+    gateway_over(rt, config, options, records, &users)
 }
 
 /// The gateway that the configuration file at a path describes.
@@ -280,7 +299,5 @@ pub fn prepare<R: GatewayRuntime>(rt: &R, path: &str) -> Result<Gateway<R>, Refu
         options,
         users,
     } = read_setup(rt, path)?;
-    let records = Records::open(*rt, &config, &options)?;
-    let users = first_users(rt, config.whole_uploads, users)?;
-    gateway_over(rt, &config, options, records, &users)
+    gateway_of(rt, &config, options, users)
 }
