@@ -88,8 +88,13 @@ impl Hub {
         }
         let spare = mem::replace(&mut self.spare, None);
         let mut room = room_or_new(self.alloc, spare)?;
-        self.fill_room(&event.kind, twice, &mut room)?;
-        Ok(room)
+        match self.fill_room(&event.kind, twice, &mut room) {
+            Ok(()) => Ok(room),
+            Err(error) => {
+                drop(room);
+                Err(error)
+            }
+        }
     }
 
     /// Lets the room of a step go that is not taken.
@@ -321,7 +326,10 @@ fn room_or_new(alloc: Global, spare: Option<Box<Room>>) -> Result<Box<Room>, Pre
     }
     match Box::new(alloc, Room::blank(alloc)) {
         Ok(room) => Ok(room),
-        Err(_) => Err(PrepareError::OutOfMemory),
+        Err(failed) => {
+            drop(failed);
+            Err(PrepareError::OutOfMemory)
+        }
     }
 }
 

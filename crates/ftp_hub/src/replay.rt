@@ -88,14 +88,17 @@ fn repeat(alloc: Global, hub: &mut Hub, e: &Entry, log: &mut Log) -> Result<(), 
     ensures options { options_of hub.new ≡ options_of hub.old }
     ensures count { OnOk result (count_of hub.new ≡ count_of hub.old + 1) }
 {
-    let event = e.event.copy(alloc)?;
     log.make_room()?;
+    let event = e.event.copy(alloc)?;
     match hub.prepare(&event) {
         Ok(room) => {
             log.push_reserved(hub.step(room, event, e.answer));
             Ok(())
         }
-        Err(PrepareError::OutOfMemory) => Err(AllocError),
+        Err(PrepareError::OutOfMemory) => {
+            drop(event);
+            Err(AllocError)
+        }
         Err(PrepareError::Exhausted) => unreachable!(),
     }
 }

@@ -27,6 +27,7 @@ use ftp_switchboard::{Numbers, Switchboard};
 use ftp_transfer::Ticket;
 use std::alloc::{AllocError, Global};
 use std::collections::HashMap;
+use std::mem;
 
 impl LoginState {
     // How far the login is.
@@ -154,9 +155,12 @@ fn queue_one(
     ensures len { OnOk result (map.hash_map_len sessions.new ≡ map.hash_map_len sessions.old) }
 {
     let number = line.session;
-    if let Some(session) = sessions.get_mut(&number) {
-        session.pending = Some(waiting(alloc, line, session)?);
-    }
+    let Some(session) = sessions.get_mut(&number) else {
+        drop(line);
+        return Ok(());
+    };
+    let pending = waiting(alloc, line, session)?;
+    drop(mem::replace(&mut session.pending, Some(pending)));
     Ok(())
 }
 

@@ -147,8 +147,14 @@ pub fn run_event<S: Storage, L: Link>(
 {
     match hub.prepare(&event) {
         Ok(room) => Ok(run_prepared(hub, room, storage, links, event)),
-        Err(PrepareError::Exhausted) => Err(RunError::Exhausted { done: 0 }),
-        Err(PrepareError::OutOfMemory) => Err(RunError::OutOfMemory { done: 0 }),
+        Err(PrepareError::Exhausted) => {
+            drop(event);
+            Err(RunError::Exhausted { done: 0 })
+        }
+        Err(PrepareError::OutOfMemory) => {
+            drop(event);
+            Err(RunError::OutOfMemory { done: 0 })
+        }
     }
 }
 
@@ -250,7 +256,10 @@ fn run_job<S: Storage, L: Link>(
     ensures linked { (n : ℕ) → is_linked links.old n ≡ true → is_linked links.new n ≡ true }
 {
     match links.get_mut(job.number) {
-        None => Answer::None,
+        None => {
+            drop(job);
+            Answer::None
+        }
         Some(link) => Answer::Done(execute(alloc, job, storage, link)),
     }
 }
@@ -272,10 +281,13 @@ fn run_piece<S: Storage, L: Link>(
     ensures linked { (n : ℕ) → is_linked links.old n ≡ true → is_linked links.new n ≡ true }
 {
     let Some(link) = links.get_mut(job.number) else {
+        drop(job);
         return Answer::None;
     };
     let mut job = job;
-    match execute_piece(alloc, &mut job, storage, link) {
+    let piece = execute_piece(alloc, &mut job, storage, link);
+    drop(job);
+    match piece {
         PieceResult::More { bytes } => Answer::Moved { bytes },
         PieceResult::Ended(outcome) => Answer::Done(outcome),
     }

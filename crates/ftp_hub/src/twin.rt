@@ -144,7 +144,7 @@ impl Hub {
         ensures asked { OnOk result (copies.new.asked ≡ asked.now) }
         ensures waiting { OnOk result (copies.new.waiting ≡ waiting_in self.now event.now.kind answer.now) }
     {
-        copies.event = event.copy(self.alloc)?;
+        drop(mem::replace(&mut copies.event, event.copy(self.alloc)?));
         copy_pending(self.alloc, asked, &mut copies.asked)?;
         self.copy_waiting(&event.kind, answer, &mut copies.waiting)
     }
@@ -256,7 +256,10 @@ fn copies_or_new(alloc: Global, spare: Option<Box<Copies>>) -> Result<Box<Copies
     }
     match Box::new(alloc, Copies::blank()) {
         Ok(copies) => Ok(copies),
-        Err(_) => Err(PrepareError::OutOfMemory),
+        Err(failed) => {
+            drop(failed);
+            Err(PrepareError::OutOfMemory)
+        }
     }
 }
 
@@ -305,7 +308,7 @@ fn let_go(to: &mut Option<Pending>)
 fn drop_pending(to: &mut Option<Pending>)
     ensures { to.new ≡ None }
 {
-    *to = None;
+    drop(mem::replace(to, None));
 }
 
 // The ticket and the link of the first job that starts.
