@@ -52,6 +52,7 @@ fn event(alloc: Global, line: &[u8]) -> Result<HubEvent, LineFault>
     let (word, rest) = word_value(&EVENT_WORDS, rest)?;
     let (kind, rest) = event_kind(alloc, word, rest)?;
     if !rest.is_empty() {
+        drop(kind);
         return Err(LineFault::Bad);
     }
     Ok(HubEvent { at, kind })

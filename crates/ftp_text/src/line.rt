@@ -72,6 +72,7 @@ fn options(alloc: Global, line: &[u8]) -> Result<LogLine, LineFault>
     if is_options(&item) {
         Ok(LogLine::Options(item))
     } else {
+        drop(item);
         Err(LineFault::Bad)
     }
 }

@@ -110,7 +110,7 @@ impl Place {
             Err(fault) => return Err(fault),
         };
         let Some(stage) = self.stage.after(&says) else {
-            discard(says);
+            drop(says);
             return Err(LineFault::Bad);
         };
         self.stage = stage;
@@ -138,9 +138,6 @@ fn cut_line(text: &[u8]) -> Option<(&[u8], &[u8])>
     }
 }
 
-// Lets a line go.
-fn discard(_line: LogLine) {}
-
 /// The number of the first line that no printed log has, or None where the text is that of a printed log: an options
 /// line or none, and the lines of entries.
 ///
@@ -159,7 +156,7 @@ pub fn first_bad_line(alloc: Global, text: &[u8]) -> Result<Option<u64>, AllocEr
     while !rest.is_empty() {
         match place.read(alloc, rest) {
             Ok((line, behind)) => {
-                discard(line);
+                drop(line);
                 rest = behind;
             }
             Err(LineFault::Bad) => return Ok(Some(place.lines)),

@@ -41,7 +41,10 @@ pub fn options_in(alloc: Global, item: Item) -> Options
             set_rules(&mut builder, host, active, idle, lockout, restart);
             built(builder)
         }
-        _ => default_options(alloc),
+        other => {
+            drop(other);
+            default_options(alloc)
+        }
     }
 }
 

@@ -58,8 +58,14 @@ pub(crate) fn command_in(
         return Err(LineFault::Bad);
     };
     if !is_from_root(path) {
+        drop(command);
         return Err(LineFault::Bad);
     }
-    let path = Bytes::from_slice(alloc, path)?;
-    Ok((command, path))
+    match Bytes::from_slice(alloc, path) {
+        Ok(path) => Ok((command, path)),
+        Err(error) => {
+            drop(command);
+            Err(error.into())
+        }
+    }
 }

@@ -85,6 +85,7 @@ fn read_next(alloc: Global, lines: &mut Vec<StateLine>, line: &[u8]) -> Result<(
 {
     let says = read_state_line(alloc, line)?;
     if !may_stand_behind(lines, &says) {
+        drop(says);
         return Err(LineFault::Bad);
     }
     lines.push(says)?;
