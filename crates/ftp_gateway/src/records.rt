@@ -97,7 +97,10 @@ impl<R: Wait + Files<File = File> + Clock + AllocGlobal + Copy + Drop> Records<R
         files.write_metrics()?;
         match Arc::new(rt.alloc(), files) {
             Ok(files) => Ok(Records { rt, files, counts }),
-            Err(_) => Err(Refusal::OutOfMemory),
+            Err(failed) => {
+                drop(failed);
+                Err(Refusal::OutOfMemory)
+            }
         }
     }
 
@@ -142,7 +145,10 @@ impl<R: Wait + Files<File = File> + Clock + AllocGlobal + Copy + Drop> RecordFil
         };
         match self.logs.push(log) {
             Ok(()) => Ok(()),
-            Err(_) => Err(Refusal::OutOfMemory),
+            Err(failed) => {
+                drop(failed);
+                Err(Refusal::OutOfMemory)
+            }
         }
     }
 

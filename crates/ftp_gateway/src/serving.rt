@@ -236,7 +236,14 @@ fn make_counting<R: GatewayRuntime>(
     let waiting = shared(alloc, Mutex::new(Vec::new(alloc)))?;
     let theirs = Arc::try_clone(&waiting)?;
     Ok(Counting {
-        control: control_of(rt, config, users.share()?, activity, records.files()?, theirs)?,
+        control: control_of(
+            rt,
+            config,
+            users.share()?,
+            activity,
+            records.files()?,
+            theirs,
+        )?,
         transfers,
         logins,
         waiting,
