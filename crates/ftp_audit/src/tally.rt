@@ -54,8 +54,14 @@ impl Tally {
         ensures unchanged { OnErr result ((o : Options) (log : List Entry) → HasCounted o self.old log → HasCounted o self.new log) }
     {
         let event = entry.event.copy(self.alloc)?;
-        let room = self.hub.prepare(&event)?;
-        let _ = self.hub.step(room, event, entry.answer);
+        let room = match self.hub.prepare(&event) {
+            Ok(room) => room,
+            Err(error) => {
+                drop(event);
+                return Err(error);
+            }
+        };
+        drop(self.hub.step(room, event, entry.answer));
         self.locked = more_locked(self.locked, entry.decision);
         Ok(())
     }

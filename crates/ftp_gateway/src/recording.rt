@@ -39,7 +39,11 @@ fn take_next<R: Wait + Drop>(
     records: &Records<R>,
 ) -> Result<Option<Result<(), Refusal>>, EntriesLost> {
     match feed.next(rt)? {
-        Some(entry) => Ok(Some(records.take(&entry))),
+        Some(entry) => {
+            let taken = records.take(&entry);
+            drop(entry);
+            Ok(Some(taken))
+        }
         None => Ok(None),
     }
 }

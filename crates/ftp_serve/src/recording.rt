@@ -56,7 +56,9 @@ fn put_next<R: Wait>(rt: &R, feed: &JournalFeed, out: &mut Vec<u8>) -> Result<bo
     let Some(entry) = feed.next(rt)? else {
         return Ok(false);
     };
-    match put_entry(out, &entry) {
+    let put = put_entry(out, &entry);
+    drop(entry);
+    match put {
         Ok(()) => Ok(true),
         Err(AllocError) => Err(EntriesLost),
     }
