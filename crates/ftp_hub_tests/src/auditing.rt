@@ -25,7 +25,9 @@ const VISITS: [&[u8]; 10] = [
 /// The line of a script happens on the hub, and the audit hears of it.
 fn hear(rt: &impl Abort, alloc: Global, hub: &mut Hub, audit: &mut Audit, line: &[u8]) {
     let entry = step(rt, alloc, hub, line, Answer::None);
-    audit.take(&entry).ok().expect(rt, "an entry that fits");
+    let taken = audit.take(&entry);
+    drop(entry);
+    taken.ok().expect(rt, "an entry that fits");
 }
 
 #[test]
@@ -36,6 +38,7 @@ fn an_audit_hears_what_happens_on_a_hub(rt: HostRuntime) {
     for line in VISITS {
         hear(&rt, alloc, &mut hub, &mut audit, line);
     }
+    drop(hub);
     let report = audit.report().expect(&rt, "a report");
     same(
         &rt,

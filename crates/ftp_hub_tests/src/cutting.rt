@@ -49,9 +49,11 @@ fn connect_over<L: Serving, R: Wait + Abort>(
     for place in 0..events {
         let submitted = submit(rt, &hub, connect(hub.draw()));
         seen.is_counted = seen.is_counted && submitted.receipt.place == place;
+        drop(submitted);
         seen.last = hub.tail(rt);
         seen.longest = seen.longest.max(seen.last);
     }
+    drop(hub);
     seen
 }
 
@@ -72,7 +74,7 @@ pub fn tail_over<R: Wait + Abort>(
 fn happen<L: Serving, R: Wait + Abort>(rt: &R, hub: &CutHub<L>, kind: EventKind)
     requires { has_ticket kind ≡ false }
 {
-    submit(rt, hub, kind);
+    drop(submit(rt, hub, kind));
 }
 
 // What a session is handed at its next event.
@@ -81,12 +83,10 @@ fn handed_next<L: Serving, R: Wait + Abort>(rt: &R, hub: &CutHub<L>, session: u6
         at: 0,
         kind: EventKind::IdleTick { session },
     };
-    let Turn {
-        earlier,
-        submitted: _,
-    } = hub
+    let Turn { earlier, submitted } = hub
         .submit_for(rt, &mut (), event, Answer::None)
         .expect(rt, "a turn");
+    drop(submitted);
     earlier
 }
 
@@ -101,7 +101,9 @@ fn hand_late<L: Serving, R: Wait + Abort>(rt: &R, alloc: Global, options: Option
     for _ in 0..5 {
         happen(rt, &hub, connect(hub.draw()));
     }
-    handed_next(rt, &hub, session)
+    let handed = handed_next(rt, &hub, session);
+    drop(hub);
+    handed
 }
 
 /// What a session is handed that gave its name before the last checkpoints, of which there is one after each second entry.

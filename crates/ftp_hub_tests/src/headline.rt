@@ -29,6 +29,13 @@ pub fn run_all<S: Storage, L: Link>(
 {
     let mut hub = Hub::new(alloc, options);
     let mut log = Log::new(alloc);
-    run_events(&mut hub, storage, links, events, &mut log)?;
-    Ok(log)
+    let run = run_events(&mut hub, storage, links, events, &mut log);
+    drop(hub);
+    match run {
+        Ok(()) => Ok(log),
+        Err(error) => {
+            drop(log);
+            Err(error)
+        }
+    }
 }

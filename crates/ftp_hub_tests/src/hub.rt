@@ -63,7 +63,10 @@ fn run_at_the_end(
     let mut log = Log::new(alloc);
     holds(rt, covers(&links, events));
     let run = run_events(&mut hub, &mut storage, &mut links, events, &mut log);
-    (run, log.len())
+    drop((hub, storage, links));
+    let entries = log.len();
+    drop(log);
+    (run, entries)
 }
 
 #[test]

@@ -38,7 +38,7 @@ pub fn happen<L: Serving, R: Wait + Abort>(
 )
     requires { has_ticket kind ≡ false }
 {
-    act(rt, hub, share, kind);
+    drop(act(rt, hub, share, kind));
 }
 
 /// A session logs in.
@@ -94,11 +94,10 @@ pub fn start<L: Serving, R: Wait + Abort>(
     get_connection(rt, hub, share, session);
     let path = Bytes::from_slice(alloc, b"a").expect(rt, "a path");
     let command = DataChanCmd::Retr { path };
-    let Turn {
-        earlier: _,
-        submitted,
-    } = act(rt, hub, share, EventKind::Transfer { session, command });
-    let Submitted { receipt: _, job } = submitted;
+    let Turn { earlier, submitted } = act(rt, hub, share, EventKind::Transfer { session, command });
+    drop(earlier);
+    let Submitted { receipt, job } = submitted;
+    drop(receipt);
     job.expect(rt, "a job")
 }
 
@@ -128,10 +127,8 @@ fn handed_at_quit<L: Serving, R: Wait + Abort>(
     hub: &SharedHub<L>,
     share: &mut StepShare<L>,
 ) -> Vec<u8> {
-    let Turn {
-        earlier,
-        submitted: _,
-    } = act(rt, hub, share, EventKind::Quit { session: 1 });
+    let Turn { earlier, submitted } = act(rt, hub, share, EventKind::Quit { session: 1 });
+    drop(submitted);
     sent_at_once(alloc, &earlier).expect(rt, "a text")
 }
 
@@ -149,7 +146,9 @@ fn go_on_beside_a_job<L: Serving, R: Wait + Abort>(
         happen(rt, hub, share, EventKind::Shutdown);
     }
     let drained_early = hub.drained(rt);
-    let woken = finish(rt, hub, share, job, 5).others().next();
+    let told = finish(rt, hub, share, job, 5);
+    let woken = told.others().next();
+    drop(told);
     let sent = handed_at_quit(rt, alloc, hub, share);
     // A session that the stop has ended is handed nothing more.
     let (to_wake, handed) = if stops_early {

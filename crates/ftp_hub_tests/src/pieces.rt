@@ -26,10 +26,11 @@ fn move_on<L: Serving, R: Wait + Abort>(
     let mut job = job;
     for _ in 0..most {
         holds(rt, job.can_move(1));
-        let Submitted {
-            receipt: _,
-            job: back,
-        } = hub.piece(rt, share, job, 0, 1).ok().expect(rt, "a piece");
+        let Submitted { receipt, job: back } = hub
+            .piece(rt, share, job, 0, 1)
+            .ok()
+            .expect(rt, "a piece");
+        drop(receipt);
         match back {
             Some(back) => job = back,
             None => return None,
@@ -60,7 +61,7 @@ fn move_to_end<L: Serving, R: Wait + Abort>(
 ) -> StepShare<L> {
     let mut share = share(rt, hub);
     let job = move_on(rt, hub, &mut share, job, PIECES).expect(rt, "a job");
-    finish(rt, hub, &mut share, job, PIECES);
+    drop(finish(rt, hub, &mut share, job, PIECES));
     share
 }
 

@@ -33,9 +33,10 @@ fn submit<L: Serving, R: Wait + Abort>(
 {
     let mut share = share(rt, hub);
     let event = HubEvent { at: 0, kind };
-    let Submitted { receipt, job: _ } = hub
+    let Submitted { receipt, job } = hub
         .submit(rt, &mut share, event, Answer::None)
         .expect(rt, "a receipt");
+    drop(job);
     (share, receipt)
 }
 
@@ -48,9 +49,13 @@ fn receipts_of(
     told: Told,
 ) -> Vec<Receipt> {
     match told {
-        Told::First => Vec::new(alloc),
+        Told::First => {
+            drop((one, two));
+            Vec::new(alloc)
+        }
         Told::Both => vec![in alloc; two, one].expect(rt, "receipts"),
         Told::Misplaced => {
+            drop(one);
             let Receipt { place: _, entry } = two;
             vec![in alloc; Receipt { place: 0, entry }].expect(rt, "a receipt")
         }

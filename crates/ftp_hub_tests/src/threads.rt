@@ -22,8 +22,10 @@ fn connect_all<L: Serving, R: Wait + Abort>(
             at: 0,
             kind: connect(hub.draw()),
         };
-        hub.submit(rt, &mut share, event, Answer::None)
+        let submitted = hub
+            .submit(rt, &mut share, event, Answer::None)
             .expect(rt, "an entry");
+        drop(submitted);
     }
     share
 }
