@@ -285,9 +285,7 @@ fn run_piece<S: Storage, L: Link>(
         return Answer::None;
     };
     let mut job = job;
-    let piece = execute_piece(alloc, &mut job, storage, link);
-    drop(job);
-    match piece {
+    match execute_piece(alloc, &mut job, storage, link) {
         PieceResult::More { bytes } => Answer::Moved { bytes },
         PieceResult::Ended(outcome) => Answer::Done(outcome),
     }
