@@ -100,7 +100,10 @@ impl<L: Serving> JournalHub for CutHub<L> {
         let appended = self.lock.lock(rt).append(end, Answer::Done(outcome));
         self.beside.tell_of(rt, &appended);
         match appended {
-            Ok(submitted) => Ok(submitted),
+            Ok(submitted) => {
+                drop(job);
+                Ok(submitted)
+            }
             Err(cause) => Err(FinishError { job, cause }),
         }
     }

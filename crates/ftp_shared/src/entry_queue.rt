@@ -64,12 +64,17 @@ impl EntryQueue {
         ensures same { (self.new.next ≡ self.old.next) × (self.new.end ≡ self.old.end) × (self.new.most ≡ self.old.most) }
     {
         if !self.takes(place) {
+            drop(entry);
             self.has_lost = true;
             return Ok(false);
         }
         match self.waiting.insert(place, entry) {
-            Ok(_) => Ok(true),
-            Err(_) => {
+            Ok(before) => {
+                drop(before);
+                Ok(true)
+            }
+            Err(lost) => {
+                drop(lost);
                 self.has_lost = true;
                 Err(AllocError)
             }

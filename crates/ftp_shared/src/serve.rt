@@ -85,6 +85,7 @@ pub fn serve_job<R: Wait, H: JournalHub, S: Storage, L: Link, G: Gate, E: Edge>(
     'pieces: loop {
         match execute_piece(alloc, &mut next, storage, link) {
             PieceResult::Ended(outcome) => {
+                drop(next);
                 let at = edge.now();
                 return hub.finish(rt, pass, job, at, outcome);
             }
@@ -93,7 +94,8 @@ pub fn serve_job<R: Wait, H: JournalHub, S: Storage, L: Link, G: Gate, E: Edge>(
                 match report(rt, hub, pass, job, next.done, count, edge) {
                     Reported::GoesOn(told) => job = told,
                     Reported::Over(submitted) => {
-                        let _ = link.close();
+                        drop(next);
+                        drop(link.close());
                         return Ok(submitted);
                     }
                 }

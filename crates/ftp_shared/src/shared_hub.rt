@@ -133,7 +133,10 @@ impl<L: Serving> JournalHub for SharedHub<L> {
         let appended = self.lock.lock(rt).append(share, end, Answer::Done(outcome));
         self.beside.tell_of(rt, &appended);
         match appended {
-            Ok(submitted) => Ok(submitted),
+            Ok(submitted) => {
+                drop(job);
+                Ok(submitted)
+            }
             Err(cause) => Err(FinishError { job, cause }),
         }
     }

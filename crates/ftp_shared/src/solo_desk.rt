@@ -130,6 +130,8 @@ impl<L: Serving, S: ShowsDirectories + Drop> Desk for SoloDesk<L, S> {
 
     fn submit(&mut self, event: HubEvent, answer: Answer) -> Result<Told, AppendError> {
         let Ok(()) = self.jobs.reserve(1) else {
+            drop(event);
+            drop(answer);
             self.refused = self.refused.saturating_add(1);
             return Err(AppendError::OutOfMemory);
         };
