@@ -9,7 +9,7 @@ use crate::marks::Marks;
 use crate::outbox::Outbox;
 use crate::ready::{make_ready, own_session, share_of};
 use crate::receipt::{Receipt, Replies, Submitted, Turn};
-use crate::settle::{Gathered, SettleError, compared};
+use crate::settle::{SettleError, compared, count_steps};
 use crate::share::{Parts, StepShare};
 use ftp_events::{Answer, HubEvent, Log};
 use ftp_hub::{Hub, Twin, keep};
@@ -310,25 +310,21 @@ impl<L: Serving> Locked<L> {
     {
         let Locked {
             alloc: _,
-            hub: _,
+            hub,
             journal,
-            outbox: _,
-            marks: _,
+            outbox,
+            marks,
             steps,
             parts,
         } = self;
+        drop(hub);
+        drop(outbox);
+        drop(marks);
         let length = journal.len();
-        let mut steps = steps;
-        let (share, count) = parts.open();
-        let mut all = Gathered::new(share, count);
-        all.add_all(&mut steps, shares, length);
-        all.bound();
-        steps.audit(&mut all.share);
-        if all.count != length {
-            return Err(SettleError::Missing {
-                counted: all.count,
-                length,
-            });
+        let counted = count_steps(steps, parts, shares, length);
+        if counted != length {
+            drop(journal);
+            return Err(SettleError::Missing { counted, length });
         }
         Ok(journal)
     }

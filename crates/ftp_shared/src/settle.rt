@@ -7,7 +7,7 @@ ghost use Rattle.ftp_shared.specs.declared.receipt.Receipt.{Receipt};
 ghost use Rattle.ftp_shared.specs.Settled.{IsDiffering, IsFirstOther, IsKept};
 
 use crate::receipt::Receipt;
-use crate::share::StepShare;
+use crate::share::{Parts, StepShare};
 use ftp_events::{Entry, Log};
 use std::alloc::{AllocError, Global};
 use std::sync::ledger::{Book, Ledger, Share};
@@ -94,23 +94,57 @@ fn copies(
 ) -> Result<(Option<Entry>, Entry), AllocError>
     ensures { IfOk result (λ both. (both.0 ≡ option_copied kept.entry) × (both.1 ≡ told.now)) }
 {
-    let kept = match kept {
-        Some(kept) => Some(kept.copy(alloc)?),
-        None => None,
-    };
-    Ok((kept, told.copy(alloc)?))
+    let kept = copy_of(alloc, kept)?;
+    match told.copy(alloc) {
+        Ok(told) => Ok((kept, told)),
+        Err(error) => {
+            drop(kept);
+            Err(error)
+        }
+    }
 }
 
-/// A share with the parts and the steps of many.
+// A copy of an entry, where there is one.
+fn copy_of(alloc: Global, kept: Option<&Entry>) -> Result<Option<Entry>, AllocError>
+    ensures { IfOk result (λ copy. copy ≡ option_copied kept.entry) }
+{
+    match kept {
+        Some(kept) => Ok(Some(kept.copy(alloc)?)),
+        None => Ok(None),
+    }
+}
+
+/// How many steps were made with the parts and the shares.
+pub(crate) fn count_steps<L: Ledger>(
+    steps: Book<L>,
+    parts: Parts<L>,
+    shares: Vec<StepShare<L>>,
+    length: u64,
+) -> u64
+    requires { steps.total ≡ length }
+    ensures sum { result ≡ parts.count + sum_by (λ s. s.count) shares.items }
+    ensures whole { parts.parts + vec_len shares ≡ L.parts → result ≡ length }
+    ensures apart { parts.parts + vec_len shares ≤ L.parts }
+{
+    let mut steps = steps;
+    let (share, count) = parts.open();
+    let mut all = Gathered::new(share, count);
+    all.add_all(&mut steps, shares, length);
+    all.bound();
+    steps.audit(&mut all.share);
+    all.count
+}
+
+// A share with the parts and the steps of many.
 #[derive(Drop)]
-pub(crate) struct Gathered<L: Ledger> {
-    pub(crate) share: Share<L>,
-    pub(crate) count: u64,
+struct Gathered<L: Ledger> {
+    share: Share<L>,
+    count: u64,
     ghost counted: { share.amount ≡ count },
 }
 
 impl<L: Ledger> Gathered<L> {
-    pub(crate) fn new(share: Share<L>, count: u64) -> Gathered<L>
+    fn new(share: Share<L>, count: u64) -> Gathered<L>
         requires { share.amount ≡ count }
         ensures parts { result.share.parts ≡ share.parts }
         ensures count { result.count ≡ count }
@@ -132,7 +166,7 @@ impl<L: Ledger> Gathered<L> {
     }
 
     // Adds all of the shares.
-    pub(crate) fn add_all(&mut self, steps: &mut Book<L>, shares: Vec<StepShare<L>>, length: u64)
+    fn add_all(&mut self, steps: &mut Book<L>, shares: Vec<StepShare<L>>, length: u64)
         requires { steps.old.total ≡ length }
         ensures total { steps.new.total ≡ steps.old.total }
         ensures parts { self.new.share.parts ≡ self.old.share.parts + vec_len shares }
@@ -145,7 +179,7 @@ impl<L: Ledger> Gathered<L> {
     }
 
     // There are no more parts than the ledger was cut into.
-    pub(crate) fn bound(&mut self)
+    fn bound(&mut self)
         ensures within { self.new.share.parts ≤ L.parts }
         ensures parts { self.new.share.parts ≡ self.old.share.parts }
         ensures count { self.new.count ≡ self.old.count }
