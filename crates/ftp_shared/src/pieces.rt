@@ -10,8 +10,9 @@ use crate::AppendError;
 use crate::cut::Cut;
 use crate::locked::{Locked, Serving};
 use crate::receipt::{FinishError, JobShare, Submitted};
+use crate::report::is_moved;
 use crate::share::StepShare;
-use ftp_events::{Answer, Decision, EventKind, HubEvent};
+use ftp_events::{Answer, EventKind, HubEvent};
 
 impl JobShare {
     // A piece of it.
@@ -114,12 +115,29 @@ fn handed_back(submitted: Submitted, job: JobShare, bytes: u64) -> Submitted
     ensures receipt { result.receipt ≡ submitted.receipt }
     ensures job { result.job ≡ (if is_moved submitted.receipt.entry.decision then Some (behind job bytes) else submitted.job) }
 {
+    let is_counted = is_moved(submitted.receipt.entry.decision);
     let Submitted { receipt, job: next } = submitted;
-    match receipt.entry.decision {
-        Decision::Moved => Submitted {
-            receipt,
-            job: Some(job.behind(bytes)),
-        },
-        _ => Submitted { receipt, job: next },
+    Submitted {
+        receipt,
+        job: job_behind(is_counted, job, bytes, next),
+    }
+}
+
+// The job with its piece where that is counted, else the next one.
+fn job_behind(
+    is_counted: bool,
+    job: JobShare,
+    bytes: u64,
+    next: Option<JobShare>,
+) -> Option<JobShare>
+    requires { can_move job bytes ≡ true }
+    ensures { result ≡ (if is_counted then Some (behind job bytes) else next) }
+{
+    if is_counted {
+        drop(next);
+        Some(job.behind(bytes))
+    } else {
+        drop(job);
+        next
     }
 }

@@ -70,8 +70,8 @@ fn job_in(submitted: Submitted) -> Option<JobShare>
     job
 }
 
-// Says whether a piece was counted, and its job goes on.
-fn is_moved(decision: Decision) -> bool
+/// Says whether a piece was counted, and its job goes on.
+pub(crate) fn is_moved(decision: Decision) -> bool
     ensures { result ≡ is_moved decision }
 {
     matches!(decision, Decision::Moved)
