@@ -9,10 +9,10 @@ use crate::AppendError;
 use crate::locked::Serving;
 use crate::marks::Marks;
 use crate::outbox::Outbox;
-use crate::ready::{own_session, ready_cut, share_of};
-use crate::receipt::{Receipt, Replies, Submitted, Turn};
+use crate::ready::{own_session, ready_cut, step};
+use crate::receipt::{Submitted, Turn};
 use ftp_events::{Answer, HubEvent, Log};
-use ftp_hub::{Hub, Twin, keep};
+use ftp_hub::Hub;
 use ftp_options::Options;
 use std::alloc::Global;
 use std::marker::PhantomData;
@@ -121,7 +121,7 @@ impl<L: Serving> Cut<L> {
         ensures exhausted { IsErrOf result AppendError.Exhausted ↔ (count_of self.old.hub ≡ 2 ^ 64 - 1) }
         ensures every { self.new.every ≡ self.old.every }
     {
-        let room = ready_cut(
+        let room = match ready_cut(
             self.alloc,
             &mut self.hub,
             &mut self.tail,
@@ -130,19 +130,24 @@ impl<L: Serving> Cut<L> {
             &mut self.marks,
             &event,
             &answer,
-        )?;
-        let place = self.hub.events();
-        let Twin { kept, told, job } = self.hub.step_twin(room, event, answer);
-        self.marks.follow(&told);
-        keep(&mut self.tail, kept);
-        let earlier = self.outbox.hand(own);
-        Ok(Turn {
-            earlier: Replies::from_vec(earlier),
-            submitted: Submitted {
-                receipt: Receipt { place, entry: told },
-                job: share_of(&mut self.marks, job),
-            },
-        })
+        ) {
+            Ok(room) => room,
+            Err(error) => {
+                drop(event);
+                drop(answer);
+                return Err(error);
+            }
+        };
+        Ok(step(
+            &mut self.hub,
+            &mut self.tail,
+            &mut self.outbox,
+            &mut self.marks,
+            room,
+            event,
+            answer,
+            own,
+        ))
     }
 
     /// Adds the entry of this event, with the answer to it. Its replies wait in the outboxes of their sessions.

@@ -7,12 +7,12 @@ ghost use Rattle.ftp_shared.specs.Keeps.{Keeps};
 use crate::AppendError;
 use crate::marks::Marks;
 use crate::outbox::Outbox;
-use crate::ready::{make_ready, own_session, share_of};
-use crate::receipt::{Receipt, Replies, Submitted, Turn};
+use crate::ready::{make_ready, own_session, step};
+use crate::receipt::{Receipt, Submitted, Turn};
 use crate::settle::{SettleError, compared, count_steps};
 use crate::share::{Parts, StepShare};
 use ftp_events::{Answer, HubEvent, Log};
-use ftp_hub::{Hub, Twin, keep};
+use ftp_hub::Hub;
 use ftp_options::Options;
 use std::alloc::Global;
 use std::marker::Brand;
@@ -190,27 +190,29 @@ impl<L: Serving> Locked<L> {
         ensures same_share { OnErr result (share.new.count ≡ share.old.count) }
         ensures same_parts { (self.new.parts.parts ≡ self.old.parts.parts) × (self.new.parts.count ≡ self.old.parts.count) }
     {
-        let room = make_ready(
+        let Ok(room) = make_ready(
             &mut self.hub,
             &mut self.journal,
             &mut self.outbox,
             &mut self.marks,
             &event,
             &answer,
-        )?;
-        let place = self.journal.len();
-        let Twin { kept, told, job } = self.hub.step_twin(room, event, answer);
-        self.marks.follow(&told);
-        keep(&mut self.journal, kept);
-        let earlier = self.outbox.hand(own);
+        ) else {
+            drop(event);
+            drop(answer);
+            return Err(AppendError::OutOfMemory);
+        };
         share.add(&mut self.steps);
-        Ok(Turn {
-            earlier: Replies::from_vec(earlier),
-            submitted: Submitted {
-                receipt: Receipt { place, entry: told },
-                job: share_of(&mut self.marks, job),
-            },
-        })
+        Ok(step(
+            &mut self.hub,
+            &mut self.journal,
+            &mut self.outbox,
+            &mut self.marks,
+            room,
+            event,
+            answer,
+            own,
+        ))
     }
 
     /// Splits a share off, with no step counted, unless it is the last part.

@@ -1,17 +1,21 @@
-//! What an append does before and after the step.
+//! The parts of an append: what is taken before the step, and the step.
 
-ghost use Rattle.std.specs.Prelude.{◌≡◌, ◌-◌, ◌^◌, ◌≤◌, ◌<◌, ◌↔◌, ℕ, [], ◌∷◌, length, nat_lt, true, false, None, List, unwrap_or, IfOk, OnOk, OnErr, IsErrOf, IsSomeAnd, if◌then◌else◌};
+ghost use Rattle.std.specs.Prelude.{◌≡◌, ◌+◌, ◌-◌, ◌^◌, ◌≤◌, ◌<◌, ◌↔◌, ℕ, [], ◌∷◌, length, nat_lt, true, false, None, List, unwrap_or, IfOk, OnOk, OnErr, IsErrOf, IsSomeAnd, if◌then◌else◌};
+ghost use Rattle.std.specs.Option.{option_map_or};
 ghost use Rattle.ftp_events.specs.declared.entry.Entry.{Entry};
+ghost use Rattle.ftp_events.specs.Log.{past_of};
+ghost use Rattle.ftp_events.specs.Right.{next_entry};
+ghost use Rattle.ftp_events.specs.Words.{is_number};
 ghost use Rattle.ftp_hub.specs.Stands.{Stands, count_of, options_of};
-ghost use Rattle.ftp_hub.specs.Twin.{FitsTwin};
-ghost use Rattle.ftp_shared.specs.Outbox.{newest, outbox_in, own_session};
+ghost use Rattle.ftp_hub.specs.Twin.{FitsTwin, started_job};
+ghost use Rattle.ftp_shared.specs.Outbox.{newest, outbox_in, own_session, sorted};
 
 use crate::AppendError;
 use crate::marks::Marks;
 use crate::outbox::Outbox;
-use crate::receipt::JobShare;
+use crate::receipt::{JobShare, Receipt, Replies, Submitted, Turn};
 use ftp_events::{Action, Answer, Entry, EventKind, HubEvent, Log};
-use ftp_hub::{Hub, TwinRoom};
+use ftp_hub::{Hub, Twin, TwinRoom, keep};
 use ftp_transfer::Job;
 use std::alloc::{AllocError, Global};
 
@@ -124,8 +128,47 @@ pub(crate) fn own_session(kind: &EventKind) -> Option<u64>
     }
 }
 
-/// The share of a job that starts.
-pub(crate) fn share_of(marks: &mut Marks, job: Option<Job>) -> Option<JobShare>
+/// Makes the step that all memory was taken for, and hands a session what it was sent.
+pub(crate) fn step(
+    hub: &mut Hub,
+    log: &mut Log,
+    outbox: &mut Outbox,
+    marks: &mut Marks,
+    room: TwinRoom,
+    event: HubEvent,
+    answer: Answer,
+    own: Option<u64>,
+) -> Turn
+    requires fits { FitsTwin room hub.old event answer }
+    requires room { 0 < log.old.room }
+    ensures due { (J : List Entry) → Stands hub.old J → result.submitted.receipt.entry ≡ next_entry (options_of hub.old) J event answer }
+    ensures place { result.submitted.receipt.place ≡ count_of hub.old }
+    ensures job { (J : List Entry) → Stands hub.old J → result.submitted.job ≡ started_job (options_of hub.old) (past_of J) result.submitted.receipt.entry }
+    ensures stands { (J : List Entry) → Stands hub.old J → Stands hub.new (result.submitted.receipt.entry ∷ J) }
+    ensures options { options_of hub.new ≡ options_of hub.old }
+    ensures count { count_of hub.new ≡ count_of hub.old + 1 }
+    ensures log { log.new.entries ≡ result.submitted.receipt.entry ∷ log.old.entries }
+    ensures earlier { result.earlier ≡ option_map_or (sorted outbox.old) own [] }
+    ensures sorted { (s : ℕ) → sorted outbox.new s ≡ (if is_number own s then [] else sorted outbox.old s) }
+    ensures next { outbox.new.next ≡ 0 }
+    ensures told { outbox.new.told ≡ own }
+{
+    let place = hub.events();
+    let Twin { kept, told, job } = hub.step_twin(room, event, answer);
+    marks.follow(&told);
+    keep(log, kept);
+    let earlier = Replies::from_vec(outbox.hand(own));
+    Turn {
+        earlier,
+        submitted: Submitted {
+            receipt: Receipt { place, entry: told },
+            job: share_of(marks, job),
+        },
+    }
+}
+
+// The share of a job that starts.
+fn share_of(marks: &mut Marks, job: Option<Job>) -> Option<JobShare>
     ensures { result ≡ job }
 {
     match job {
