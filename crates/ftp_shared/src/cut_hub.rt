@@ -1,6 +1,7 @@
 //! The hub that threads share, where its journal is a checkpoint and a tail.
 
-ghost use Rattle.std.specs.Prelude.{◌≡◌, ◌≤◌, false, true};
+ghost use Rattle.std.specs.Prelude.{◌≡◌, ◌≤◌, IfOk, false, true};
+ghost use Rattle.ftp_shared.specs.Next.{IsNextAt};
 
 use crate::beside::Beside;
 use crate::cut::Cut;
@@ -37,6 +38,20 @@ impl<L: Serving> CutHub<L> {
     pub fn tail<R: Wait>(&self, rt: &R) -> u64 {
         self.lock.lock(rt).tail()
     }
+
+    // Adds the entry of an event, and tells it.
+    fn append<R: Wait>(
+        &self,
+        rt: &R,
+        event: HubEvent,
+        answer: Answer,
+    ) -> Result<Submitted, AppendError>
+        ensures { IfOk result (λ s. IsNextAt L.options s.receipt event answer) }
+    {
+        let submitted = self.lock.lock(rt).append(event, answer);
+        self.beside.tell_of(rt, &submitted);
+        submitted
+    }
 }
 
 impl<L: Serving> JournalHub for CutHub<L> {
@@ -57,9 +72,7 @@ impl<L: Serving> JournalHub for CutHub<L> {
         event: HubEvent,
         answer: Answer,
     ) -> Result<Submitted, AppendError> {
-        let submitted = self.lock.lock(rt).append(event, answer);
-        self.beside.tell_of(rt, &submitted);
-        submitted
+        self.append(rt, event, answer)
     }
 
     /// What the session was sent before is handed to it also where that has left the tail.
@@ -96,10 +109,7 @@ impl<L: Serving> JournalHub for CutHub<L> {
         at: u64,
         outcome: Outcome,
     ) -> Result<Submitted, FinishError> {
-        let end = job.end(at);
-        let appended = self.lock.lock(rt).append(end, Answer::Done(outcome));
-        self.beside.tell_of(rt, &appended);
-        match appended {
+        match self.append(rt, job.end(at), Answer::Done(outcome)) {
             Ok(submitted) => {
                 drop(job);
                 Ok(submitted)

@@ -2,7 +2,8 @@
 
 ghost use Rattle.std.specs.Vec.{vec_len};
 ghost use Rattle.ftp_events.specs.Right.{IsRight, IsActed};
-ghost use Rattle.std.specs.Prelude.{◌≡◌, ◌+◌, ◌<◌, ◌≤◌, length, sum_by, All, IfOk, IfErr, false, true};
+ghost use Rattle.std.specs.Prelude.{◌≡◌, ◌+◌, ◌<◌, ◌≤◌, length, sum_by, All, IfOk, IfErr, OnErr, OnOk, false, true};
+ghost use Rattle.ftp_shared.specs.Next.{IsNextAt};
 ghost use Rattle.ftp_shared.specs.Settled.{IsKept, IsOtherOf, is_missing};
 
 use crate::beside::Beside;
@@ -69,6 +70,24 @@ impl<L: Serving> SharedHub<L> {
         let SharedHub { lock, beside: _ } = self;
         lock.into_inner().settle(shares, receipts)
     }
+
+    // Adds the entry of an event, and tells it.
+    fn append<R: Wait>(
+        &self,
+        rt: &R,
+        share: &mut StepShare<L>,
+        event: HubEvent,
+        answer: Answer,
+    ) -> Result<Submitted, AppendError>
+        ensures next { IfOk result (λ s. IsNextAt L.options s.receipt event answer) }
+        ensures only { IfErr result (λ e. e ≡ AppendError.OutOfMemory) }
+        ensures share { OnOk result (share.new.count ≡ share.old.count + 1) }
+        ensures same_share { OnErr result (share.new.count ≡ share.old.count) }
+    {
+        let submitted = self.lock.lock(rt).append(share, event, answer);
+        self.beside.tell_of(rt, &submitted);
+        submitted
+    }
 }
 
 impl<L: Serving> JournalHub for SharedHub<L> {
@@ -89,9 +108,7 @@ impl<L: Serving> JournalHub for SharedHub<L> {
         event: HubEvent,
         answer: Answer,
     ) -> Result<Submitted, AppendError> {
-        let submitted = self.lock.lock(rt).append(share, event, answer);
-        self.beside.tell_of(rt, &submitted);
-        submitted
+        self.append(rt, share, event, answer)
     }
 
     fn submit_for<R: Wait>(
@@ -129,10 +146,7 @@ impl<L: Serving> JournalHub for SharedHub<L> {
         at: u64,
         outcome: Outcome,
     ) -> Result<Submitted, FinishError> {
-        let end = job.end(at);
-        let appended = self.lock.lock(rt).append(share, end, Answer::Done(outcome));
-        self.beside.tell_of(rt, &appended);
-        match appended {
+        match self.append(rt, share, job.end(at), Answer::Done(outcome)) {
             Ok(submitted) => {
                 drop(job);
                 Ok(submitted)
