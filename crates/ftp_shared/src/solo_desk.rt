@@ -94,6 +94,20 @@ impl<L: Serving, S: Storage + Drop> SoloDesk<L, S> {
     }
 }
 
+// What is told of a turn. The share of the job that starts goes behind the others, for which there is room.
+fn told(turn: Turn, jobs: &mut VecDeque<JobShare>) -> Told
+    requires { deque_len jobs.old < deque_capacity jobs.old }
+    ensures earlier { result.earlier ≡ turn.earlier }
+    ensures entry { result.entry ≡ turn.submitted.receipt.entry }
+    ensures jobs { jobs.new.items ≡ jobs.old.items ++ option_to_list turn.submitted.job }
+{
+    let Turn { earlier, submitted } = turn;
+    let Submitted { receipt, job } = submitted;
+    let Receipt { place: _, entry } = receipt;
+    keep(jobs, job);
+    Told { earlier, entry }
+}
+
 // Puts the share of a job behind the others, where one started and there is room.
 fn keep(jobs: &mut VecDeque<JobShare>, job: Option<JobShare>)
     requires { deque_len jobs.old < deque_capacity jobs.old }
@@ -139,12 +153,8 @@ impl<L: Serving, S: ShowsDirectories + Drop> Desk for SoloDesk<L, S> {
             self.refused = self.refused.saturating_add(1);
             return Err(AppendError::OutOfMemory);
         };
-        let Turn { earlier, submitted } = turn;
-        let Submitted { receipt, job } = submitted;
-        let Receipt { place: _, entry } = receipt;
-        self.newest = larger(counted_number(&entry), self.newest);
-        keep(&mut self.jobs, job);
-        Ok(Told { earlier, entry })
+        self.newest = larger(counted_number(&turn.submitted.receipt.entry), self.newest);
+        Ok(told(turn, &mut self.jobs))
     }
 
     fn draw(&mut self) -> u64 {
