@@ -18,6 +18,7 @@ use ftp_events::{Action, Answer, Entry, EventKind, HubEvent, Log};
 use ftp_hub::{Hub, Twin, TwinRoom, keep};
 use ftp_transfer::Job;
 use std::alloc::{AllocError, Global};
+use std::mem;
 
 /// Takes all memory of the next entry: in the outboxes, in the journal, and for the step.
 pub(crate) fn make_ready(
@@ -75,7 +76,13 @@ pub(crate) fn ready_cut(
     marks.reserve()?;
     outbox.catch_up(newest(tail))?;
     let fresh = place_for(alloc, tail, every)?;
-    let room = hub.prepare_twin(event, answer)?;
+    let room = match hub.prepare_twin(event, answer) {
+        Ok(room) => room,
+        Err(error) => {
+            drop(fresh);
+            return Err(error);
+        }
+    };
     cut_at(tail, fresh);
     Ok(room)
 }
@@ -91,8 +98,13 @@ fn place_for(alloc: Global, tail: &mut Log, every: u64) -> Result<Option<Log>, A
         return Ok(None);
     }
     let mut fresh = Log::new(alloc);
-    fresh.make_room()?;
-    Ok(Some(fresh))
+    match fresh.make_room() {
+        Ok(()) => Ok(Some(fresh)),
+        Err(error) => {
+            drop(fresh);
+            Err(error)
+        }
+    }
 }
 
 // A new tail takes the place of one that is full.
@@ -100,7 +112,7 @@ fn cut_at(tail: &mut Log, fresh: Option<Log>)
     ensures { tail.new ≡ unwrap_or fresh tail.old }
 {
     if let Some(fresh) = fresh {
-        *tail = fresh;
+        drop(mem::replace(tail, fresh));
     }
 }
 

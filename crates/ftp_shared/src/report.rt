@@ -66,7 +66,8 @@ fn is_due(count: u64) -> bool
 fn job_in(submitted: Submitted) -> Option<JobShare>
     ensures { result ≡ submitted.job }
 {
-    let Submitted { receipt: _, job } = submitted;
+    let Submitted { receipt, job } = submitted;
+    drop(receipt);
     job
 }
 

@@ -53,7 +53,11 @@ pub(crate) fn compared(
 {
     match first_other(&journal, receipts) {
         None => Ok(journal),
-        Some(i) => Err(differing(alloc, &journal, &receipts[i])),
+        Some(i) => {
+            let error = differing(alloc, &journal, &receipts[i]);
+            drop(journal);
+            Err(error)
+        }
     }
 }
 

@@ -67,7 +67,8 @@ impl<L: Serving> SharedHub<L> {
         // Any other error tells of the first receipt that is not the entry at its place.
         ensures differs_so { IfErr result (λ e. is_missing e ≡ false → ∥ IsOtherOf L.options receipts.now e ∥₁) }
     {
-        let SharedHub { lock, beside: _ } = self;
+        let SharedHub { lock, beside } = self;
+        drop(beside);
         lock.into_inner().settle(shares, receipts)
     }
 
