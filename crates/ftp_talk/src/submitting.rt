@@ -1,10 +1,11 @@
 //! One event, and what is said on it.
 
-ghost use Rattle.std.specs.Prelude.{◌≡◌, ◌⊎◌, List, false, true, IfErr, IfOk, OnErr, IsErrOf};
-ghost use Rattle.ftp_base.specs.Edge.{Takes, behind_moment};
+ghost use Rattle.std.specs.Prelude.{◌≡◌, ◌⊎◌, Bool, List, false, true, IfErr, IfOk, OnErr, IsErrOf};
+ghost use Rattle.ftp_base.specs.Edge.{EdgeView, Takes, behind_moment};
 ghost use Rattle.ftp_base.specs.Outside.{HasRisen};
+ghost use Rattle.ftp_events.specs.declared.event.EventKind.{EventKind};
 ghost use Rattle.ftp_shared.specs.Outbox.{has_ticket};
-ghost use Rattle.ftp_shared.specs.Desk.{SameDesk};
+ghost use Rattle.ftp_shared.specs.Desk.{DeskView, SameDesk};
 ghost use Rattle.ftp_talk.specs.Saying.{OnlyWrites};
 ghost use Rattle.ftp_talk.specs.declared.halt.Halt.TheVariants.{Exhausted, Fault, Memory};
 ghost use Rattle.ftp_talk.specs.Ground.{Step, Turn, Ground};
@@ -70,10 +71,27 @@ impl ControlSession {
         ensures control { OnlyWrites (IsErrOf result Fault) (C.left control.old) (C.left control.new) (C.faults control.old) (C.faults control.new) }
         ensures exhausted { IsErrOf result Exhausted → D.exhausts ≡ true }
     {
-        let told = match submit(desk, edge, kind) {
-            Ok(told) => told,
-            Err(halt) => return Err(halt),
-        };
+        match submit(desk, edge, kind) {
+            Ok(told) => self.answer(control, edge, &told, is_epsv),
+            Err(halt) => Err(halt),
+        }
+    }
+
+    // Takes in what was told on an event, and says what is due.
+    fn answer<C: Control, E: Edge>(
+        &mut self,
+        control: &mut C,
+        edge: &mut E,
+        told: &Told,
+        is_epsv: bool,
+    ) -> Result<Decision, Halt>
+        ensures spoke { (g : Ground) (ts : List Turn) (pieces : Pieces) (step : Step) (vouches : Bool) (before : EdgeView) (desk0 desk : DeskView) (kind : EventKind) →
+            g.start.vouches ≡ vouches → Asking g self.old before desk0 (C.sending control.old).sent ts pieces kind →
+            Entered vouches before (E.view edge.old) desk0 desk told.now.earlier told.now.entry kind →
+            IsSpoken result g self.new (E.view edge.new) desk (C.sending control.new).sent ts pieces step kind is_epsv }
+        ensures control { OnlyWrites (IsErrOf result Fault) (C.left control.old) (C.left control.new) (C.faults control.old) (C.faults control.new) }
+        ensures unexhausted { IsErrOf result Exhausted → ⊥ }
+    {
         let decision = told.entry.decision;
         let Ok(()) = self.learn(&told.entry) else {
             return Err(Halt::Memory);
