@@ -1,6 +1,6 @@
 //! What a command asks of edge and storage before its event is submitted.
 
-ghost use Rattle.std.specs.Prelude.{◌≡◌, ℕ, List, Option, Some, IfOk, IfSome, true, false};
+ghost use Rattle.std.specs.Prelude.{◌≡◌, [], ℕ, List, Option, Some, IfOk, IfSome, true, false};
 ghost use Rattle.ftp_base.specs.declared.error_kind.ErrorKind.{ErrorKind};
 ghost use Rattle.ftp_base.specs.declared.error_kind.ErrorKind.TheVariants.{LocalError};
 ghost use Rattle.ftp_base.specs.Edge.{IsCounted, next_answer, behind_lookup, behind_port};
@@ -8,9 +8,10 @@ ghost use Rattle.ftp_base.specs.Outside.{HasRisen};
 ghost use Rattle.ftp_events.specs.declared.entry.Entry.{Entry};
 ghost use Rattle.ftp_events.specs.declared.event.EventKind.TheVariants as kind;
 ghost use Rattle.ftp_shared.specs.Outbox.{has_ticket};
+ghost use Rattle.ftp_control.specs.Line.{parsed};
 ghost use Rattle.ftp_transfer.specs.Path.{join_path};
 ghost use Rattle.ftp_shared.specs.Desk.{SameDesk, MaySay, drawn_after};
-ghost use Rattle.ftp_talk.specs.Commands.{asked_of, connected_to, of_peer, MayBe, told_as, refused_as, too_long};
+ghost use Rattle.ftp_talk.specs.Commands.{Gives, GivenBy, asked_of, connected_to, of_peer, MayBe, told_as, refused_as, too_long};
 ghost use Rattle.ftp_talk.specs.Ground.{Turn, Ground, history};
 ghost use Rattle.ftp_talk.specs.Parts.{GivesMore, lines_said};
 ghost use Rattle.ftp_talk.specs.Pieces.{Pieces};
@@ -84,30 +85,65 @@ impl ControlSession {
         ensures desk { SameDesk (D.view desk.old) (D.view desk.new) }
     {
         let session = self.session;
-        let nothing = Bytes::from_vec(Vec::new(self.alloc));
         match extra {
-            Extra::Pass => {
-                if is_refused {
-                    let refused = self.refused_as(LineError::InvalidCommand)?;
-                    return Ok((refused, nothing));
-                }
-                let own = self.ask(desk, edge, command)?;
-                Ok((own, nothing))
-            }
-            Extra::Tell(message) => Ok((EventKind::Internal { session, message }, nothing)),
+            Extra::Pass => self.ask_own(desk, edge, command, is_refused),
+            Extra::Tell(message) => Ok((EventKind::Internal { session, message }, self.nothing())),
             Extra::Say(lines) => {
                 let message = ControlChanMsg::CommandChannelReply(Reply::None);
                 Ok((EventKind::Internal { session, message }, lines))
             }
-            Extra::As(other) => {
-                let done = self.ask(desk, edge, other)?;
-                Ok((done, nothing))
-            }
-            Extra::Epsv => {
-                let port = self.ask(desk, edge, Command::Pasv)?;
-                Ok((port, nothing))
-            }
+            Extra::As(other) => self.ask_alone(desk, edge, other),
+            Extra::Epsv => self.ask_alone(desk, edge, Command::Pasv),
         }
+    }
+
+    // Asks for the event of a line that is served by its own command, or refused.
+    fn ask_own<D: Desk, E: Edge>(
+        &self,
+        desk: &mut D,
+        edge: &mut E,
+        command: Command,
+        is_refused: bool,
+    ) -> Result<(EventKind, Bytes), AllocError>
+        ensures asked { IfOk result (λ k. (g : Ground) (sent : Option (List ℕ)) (ts : List Turn) (pieces : Pieces) (line : List ℕ) → g.start.draws_next ≡ D.draws_next →
+            Speaking g self.now (E.view edge.old) (D.view desk.old) sent ts pieces → IsHeardAs is_refused line command →
+            GivenBy g (history g ts) (parsed line) k.0 × Asking g self.now (E.view edge.new) (D.view desk.new) sent ts pieces k.0) }
+        ensures lines { IfOk result (λ k. k.1 ≡ []) }
+        ensures unticketed { IfOk result (λ k. has_ticket k.0 ≡ false) }
+        ensures edge { SameEdge (E.view edge.old) (E.view edge.new) }
+        ensures desk { SameDesk (D.view desk.old) (D.view desk.new) }
+    {
+        if is_refused {
+            let refused = self.refused_as(LineError::InvalidCommand)?;
+            return Ok((refused, self.nothing()));
+        }
+        self.ask_alone(desk, edge, command)
+    }
+
+    // Asks for the event of a command behind whose reply nothing is said.
+    fn ask_alone<D: Desk, E: Edge>(
+        &self,
+        desk: &mut D,
+        edge: &mut E,
+        command: Command,
+    ) -> Result<(EventKind, Bytes), AllocError>
+        ensures asked { IfOk result (λ k. (g : Ground) (sent : Option (List ℕ)) (ts : List Turn) (pieces : Pieces) → g.start.draws_next ≡ D.draws_next →
+            Speaking g self.now (E.view edge.old) (D.view desk.old) sent ts pieces →
+            Gives g (history g ts) command k.0 × Asking g self.now (E.view edge.new) (D.view desk.new) sent ts pieces k.0) }
+        ensures lines { IfOk result (λ k. k.1 ≡ []) }
+        ensures unticketed { IfOk result (λ k. has_ticket k.0 ≡ false) }
+        ensures edge { SameEdge (E.view edge.old) (E.view edge.new) }
+        ensures desk { SameDesk (D.view desk.old) (D.view desk.new) }
+    {
+        let kind = self.ask(desk, edge, command)?;
+        Ok((kind, self.nothing()))
+    }
+
+    // No lines behind a reply.
+    fn nothing(&self) -> Bytes
+        ensures { result ≡ [] }
+    {
+        Bytes::from_vec(Vec::new(self.alloc))
     }
 
     // A reply of the control layer.
