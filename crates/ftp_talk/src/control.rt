@@ -1,13 +1,15 @@
 //! Serving a control connection, from the opening of its session on.
 
-ghost use Rattle.std.specs.Prelude.{◌≡◌, ◌-◌, ◌^◌, ◌<◌, ◌≤◌, ◌∷◌, List, true, false, IfOk, IfErr, OnOk, OnErr, IsErrOf};
+ghost use Rattle.std.specs.Prelude.{◌≡◌, ◌-◌, ◌^◌, ◌<◌, ◌≤◌, ◌∷◌, List, Some, true, false, IfOk, IfErr, OnOk, OnErr, IsErrOf};
 ghost use Rattle.ftp_base.specs.declared.fault.Failed.TheVariants.{Fault};
 ghost use Rattle.ftp_base.specs.Outside.{HasRisen, Writes};
 ghost use Rattle.ftp_events.specs.declared.entry.Entry.{Entry};
 ghost use Rattle.ftp_control.specs.Writing.{WritesFront};
 ghost use Rattle.ftp_talk.specs.Saying.{greeting_line, OnlyWrites};
 ghost use Rattle.ftp_talk.specs.Ground.{Ground, Start};
-ghost use Rattle.ftp_talk.specs.Speaking.{Knows};
+ghost use Rattle.ftp_talk.specs.declared.control_session.ControlSession.{ControlSession};
+ghost use Rattle.ftp_talk.specs.declared.control_session.Peer.{Peer};
+ghost use Rattle.ftp_talk.specs.Speaking.{Begins, Knows};
 ghost use Rattle.ftp_talk.specs.Control.{client_of, peer_of, is_opening, is_opened, is_fault, HasOpened, IsUnopened, Serves};
 ghost use Rattle.ftp_talk.specs.ControlWith.{ServesWith};
 
@@ -20,8 +22,9 @@ use crate::serving::ServeEnd;
 use ftp_base::{Authenticator, Bytes, Control, Edge, Failed, IpAddr, Link};
 use ftp_events::{Answer, Decision, EventKind, HubEvent};
 use ftp_extras::{Extras, NoExtras};
+use ftp_options::Options;
 use ftp_shared::{AppendError, Desk};
-use std::alloc::Global;
+use std::alloc::{AllocError, Global};
 
 // How many bytes the buffer has until a line is longer.
 const FIRST_SIZE: usize = 512;
@@ -234,12 +237,40 @@ fn open_session<D: Desk>(
     ensures unbroken { IfErr result (λ end. is_fault end ≡ false) }
     ensures exhausted { IsErrOf result ServeEnd.Exhausted → D.exhausts ≡ true }
 {
-    let Some(peer) = peer_of(&opening.kind, &answer) else {
-        unreachable!()
-    };
-    let Ok(state) = ControlSession::open(alloc, desk.options(), peer) else {
+    let Ok(state) = session_of(alloc, desk.options(), &opening.kind, &answer) else {
         return Err(ServeEnd::OutOfMemory);
     };
+    match submit_opening(desk, opening, answer) {
+        Ok(()) => Ok(state),
+        Err(end) => Err(end),
+    }
+}
+
+// The session that an event opens, before anything is known of it.
+fn session_of(
+    alloc: Global,
+    options: &Options,
+    kind: &EventKind,
+    answer: &Answer,
+) -> Result<ControlSession, AllocError>
+    requires opening { is_opening kind.now ≡ true }
+    ensures { IfOk result (λ state. (peer : Peer) × (peer_of kind.now answer.now ≡ Some peer) × Begins state peer options.now) }
+{
+    let Some(peer) = peer_of(kind, answer) else {
+        unreachable!()
+    };
+    ControlSession::open(alloc, options, peer)
+}
+
+// Submits the opening of a session, and tells why it was not opened.
+fn submit_opening<D: Desk>(desk: &mut D, opening: HubEvent, answer: Answer) -> Result<(), ServeEnd>
+    requires opening { is_opening opening.kind ≡ true }
+    ensures opened { OnOk result ((start : Start) (state : ControlSession) (peer : Peer) → peer_of opening.kind answer ≡ Some peer → Begins state peer (D.view desk.old).options →
+        HasOpened opening answer (record start { desk = D.view desk.old; vouches = D.vouches }) state (D.view desk.new)) }
+    ensures unopened { IfErr result (λ end. (start : Start) → IsUnopened end opening answer (record start { desk = D.view desk.old; vouches = D.vouches }) (D.view desk.new)) }
+    ensures unbroken { IfErr result (λ end. is_fault end ≡ false) }
+    ensures exhausted { IsErrOf result ServeEnd.Exhausted → D.exhausts ≡ true }
+{
     let told = match desk.submit(opening, answer) {
         Ok(told) => told,
         Err(AppendError::OutOfMemory) => return Err(ServeEnd::OutOfMemory),
@@ -248,5 +279,5 @@ fn open_session<D: Desk>(
     if !is_opened(told.entry.decision) {
         return Err(ServeEnd::Refused(told.entry.decision));
     }
-    Ok(state)
+    Ok(())
 }
