@@ -1,6 +1,6 @@
 //! Serving a control connection, from the opening of its session on.
 
-ghost use Rattle.std.specs.Prelude.{◌≡◌, ◌-◌, ◌^◌, ◌<◌, ◌≤◌, ◌∷◌, List, Some, true, false, IfOk, IfErr, OnOk, OnErr, IsErrOf};
+ghost use Rattle.std.specs.Prelude.{◌≡◌, ◌-◌, ◌^◌, ◌<◌, ◌≤◌, ◌∷◌, ℕ, List, Option, Some, true, false, IfOk, IfErr, OnOk, OnErr, IsErrOf};
 ghost use Rattle.ftp_base.specs.declared.fault.Failed.TheVariants.{Fault};
 ghost use Rattle.ftp_base.specs.Outside.{HasRisen, Writes};
 ghost use Rattle.ftp_events.specs.declared.entry.Entry.{Entry};
@@ -9,7 +9,10 @@ ghost use Rattle.ftp_talk.specs.Saying.{greeting_line, OnlyWrites};
 ghost use Rattle.ftp_talk.specs.Ground.{Ground, Start};
 ghost use Rattle.ftp_talk.specs.declared.control_session.ControlSession.{ControlSession};
 ghost use Rattle.ftp_talk.specs.declared.control_session.Peer.{Peer};
-ghost use Rattle.ftp_talk.specs.Speaking.{Begins, Knows};
+ghost use Rattle.ftp_talk.specs.Extended.{TalkFrontHeard};
+ghost use Rattle.ftp_talk.specs.Halts.{halt_by};
+ghost use Rattle.ftp_talk.specs.Parts.{HeardLine};
+ghost use Rattle.ftp_talk.specs.Speaking.{Begins, IsAbout, IsCut, Knows, end_by};
 ghost use Rattle.ftp_talk.specs.Control.{client_of, peer_of, is_opening, is_opened, is_fault, HasOpened, IsUnopened, Serves};
 ghost use Rattle.ftp_talk.specs.ControlWith.{ServesWith};
 
@@ -79,6 +82,17 @@ impl ControlSession {
             return Err(Failed::Memory);
         }
         write_all(link, self.text.as_slice())
+    }
+
+    // Closes the session whose greeting was cut short, and gives the end.
+    fn cut<D: Desk, E: Edge>(&self, desk: &mut D, edge: &mut E, failed: Failed) -> ServeEnd
+        ensures left { (g : Ground) (hs : List HeardLine) (sent : Option (List ℕ)) → IsAbout g D.vouches D.draws_next →
+            IsCut g self.now (E.view edge.old) (D.view desk.old) sent hs →
+            TalkFrontHeard g (E.view edge.new) (D.view desk.new) sent hs }
+        ensures ended { result ≡ end_by (halt_by failed) }
+    {
+        self.leave(desk, edge);
+        end_by(Halt::from(failed))
     }
 }
 
@@ -217,8 +231,7 @@ pub fn serve_control_with<D: Desk, C: Control, E: Edge, A: Authenticator, X: Ext
         Err(end) => return end,
     };
     if let Err(failed) = state.greet(control, &desk.options().greeting) {
-        state.leave(desk, edge);
-        return end_by(Halt::from(failed));
+        return state.cut(desk, edge, failed);
     }
     serve_lines(&mut state, desk, control, edge, auth, extras, &mut buffer)
 }

@@ -9,7 +9,7 @@ use Rattle.ftp_shared.specs.Desk.{DeskView}
 use Rattle.ftp_talk.specs.Saying.{greeting_line}
 use Rattle.ftp_talk.specs.Ground.{Start}
 use Rattle.ftp_talk.specs.Control.{ground_of}
-use Rattle.ftp_talk.specs.Speaking.{end_by}
+use Rattle.ftp_talk.specs.Halts.{halt_by}
 use Rattle.ftp_talk.proofs.EndLemmas.{ends-front}
 use Rattle.ftp_talk.proofs.ControlLemmas.{begin-talking, begin-cut, ends-with, serves-opened, serves-unopened, no-fault, halt-ends, halt-sound, end-sound}
 use Rattle.ftp_talk.proofs.control.serve_control_with.Goals as goal
@@ -47,28 +47,28 @@ returns-in-Err-greet-clause-served g c =
     let sent1 = (g.C.Source.sending c.greet.new.link).sent in
     let front = subst (λ (o : Options). WritesFront start.sent sent1 (greeting_line o.greeting)) (c.options.ensures.told ∙ h.options) c.in-Err-greet.ensures.front in
     let cut = begin-cut c.args.opening c.args.answer start c.in-Ok-open_session.state c.greet.new.self desk1 sent1 h c.greet.ensures.known c.greet.ensures.over front in
-    let edge2 = g.E.Edge.view c.leave.new.edge in
-    let desk2 = g.D.Desk.view c.leave.new.desk in
-    serves-opened (g.X.Extras.may c.args.extras.now) (g.X.Extras.pending c.args.extras.now) c.end_by.result c.args.opening c.args.answer start c.in-Ok-open_session.state desk1 edge2 desk2 sent1 h
-    (ends-with (g.X.Extras.may c.args.extras.now) (g.X.Extras.pending c.args.extras.now) c.end_by.result ground edge2 desk2 sent1 [] tt
-    (rw c.end_by.ensures (ends-front c.from.result ground edge2 desk2 sent1 [] (c.leave.ensures ground [] sent1 (refl, refl) cut))))
+    let edge2 = g.E.Edge.view c.cut.new.edge in
+    let desk2 = g.D.Desk.view c.cut.new.desk in
+    serves-opened (g.X.Extras.may c.args.extras.now) (g.X.Extras.pending c.args.extras.now) c.cut.result c.args.opening c.args.answer start c.in-Ok-open_session.state desk1 edge2 desk2 sent1 h
+    (ends-with (g.X.Extras.may c.args.extras.now) (g.X.Extras.pending c.args.extras.now) c.cut.result ground edge2 desk2 sent1 [] tt
+    (rw c.cut.ensures.ended (ends-front (halt_by c.in-Err-greet.failed) ground edge2 desk2 sent1 [] (c.cut.ensures.left ground [] sent1 (refl, refl) cut))))
 
 pub returns-in-Err-greet-clause-read_fault : goal.returns-in-Err-greet-clause-read_fault
 returns-in-Err-greet-clause-read_fault g c = λ e.
-    absurd ((halt-ends c.in-Err-greet.failed c.end_by.result (c.end_by.ensures ∙ ap end_by c.from.ensures)).1 e)
+    absurd ((halt-ends c.in-Err-greet.failed c.cut.result c.cut.ensures.ended).1 e)
 
 pub returns-in-Err-greet-clause-write_fault : goal.returns-in-Err-greet-clause-write_fault
 returns-in-Err-greet-clause-write_fault g c = λ e.
-    c.in-Err-greet.ensures.link.fault_rose (ap Err ((halt-ends c.in-Err-greet.failed c.end_by.result (c.end_by.ensures ∙ ap end_by c.from.ensures)).0 e))
+    c.in-Err-greet.ensures.link.fault_rose (ap Err ((halt-ends c.in-Err-greet.failed c.cut.result c.cut.ensures.ended).0 e))
 
 pub returns-in-Err-greet-clause-exhausted : goal.returns-in-Err-greet-clause-exhausted
 returns-in-Err-greet-clause-exhausted g c = λ e.
-    absurd ((halt-ends c.in-Err-greet.failed c.end_by.result (c.end_by.ensures ∙ ap end_by c.from.ensures)).2 e)
+    absurd ((halt-ends c.in-Err-greet.failed c.cut.result c.cut.ensures.ended).2 e)
 
 pub returns-in-Err-greet-clause-complete : goal.returns-in-Err-greet-clause-complete
 returns-in-Err-greet-clause-complete g c =
-    halt-sound c.in-Err-greet.failed c.end_by.result (g.C.Source.faults c.args.control.now) (g.C.Source.faults c.greet.new.link)
-    (c.end_by.ensures ∙ ap end_by c.from.ensures) (λ e. c.in-Err-greet.ensures.link.fault_rose (ap Err e))
+    halt-sound c.in-Err-greet.failed c.cut.result (g.C.Source.faults c.args.control.now) (g.C.Source.faults c.greet.new.link)
+    c.cut.ensures.ended (λ e. c.in-Err-greet.ensures.link.fault_rose (ap Err e))
 
 pub returns-clause-complete : goal.returns-clause-complete
 returns-clause-complete g c =
