@@ -66,11 +66,17 @@ impl<
 
     // Says whether the job is about a small file, by a storage of this look.
     fn is_small(&self, job: &JobShare) -> bool {
-        let (Ok(job), Ok(storage)) = (job.job(self.alloc), self.depot.store()) else {
+        let Ok(job) = job.job(self.alloc) else {
+            return false;
+        };
+        let Ok(storage) = self.depot.store() else {
+            drop(job);
             return false;
         };
         let mut storage = storage;
-        match storage.metadata(&job.user, &job.path) {
+        let found = storage.metadata(&job.user, &job.path);
+        drop(job);
+        match found {
             Ok(meta) => !meta.is_dir && meta.len <= SMALL,
             Err(_) => false,
         }

@@ -179,6 +179,7 @@ impl<
         self.state.handoff.wake_all(&self.rt, submitted.others());
         let Submitted { receipt, job } = submitted;
         self.state.carry_out(&self.rt, &receipt.entry, job);
+        drop(receipt);
     }
 }
 

@@ -36,6 +36,7 @@ impl<R: WorkerRuntime, H: JournalHub + Drop, S: Services> Worker<R, H, S> {
     pub(crate) fn run(&mut self, job: JobShare) {
         let number = job.link();
         let Some(waiting) = self.state.handoff.take_link(&self.rt, number) else {
+            drop(job);
             return;
         };
         let PendingConnection { stream, ahead } = waiting;

@@ -61,6 +61,7 @@ impl<R: WorkerRuntime, H: JournalHub + Drop, S: Services> OwnJobs<R, H, S> {
         };
         let number = job.link();
         let Some(waiting) = self.state.handoff.take_link(&self.rt, number) else {
+            drop(job);
             return false;
         };
         let PendingConnection { stream, ahead } = waiting;
@@ -74,6 +75,7 @@ impl<R: WorkerRuntime, H: JournalHub + Drop, S: Services> OwnJobs<R, H, S> {
             .state
             .run_on_own_storage(&self.rt, pass, &mut edge, job, &mut link);
         drop(link);
+        drop(edge);
         // Where its end was not taken the job never ends.
         if let Some(submitted) = served {
             self.carry_out(submitted);
@@ -90,6 +92,7 @@ impl<R: WorkerRuntime, H: JournalHub + Drop, S: Services> OwnJobs<R, H, S> {
             .wake_others(&self.rt, others, self.session);
         let Submitted { receipt, job } = submitted;
         self.state.carry_out(&self.rt, &receipt.entry, job);
+        drop(receipt);
     }
 
     /// No job is run any more. One that is still kept is given to a worker.
