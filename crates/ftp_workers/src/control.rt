@@ -36,7 +36,10 @@ impl<R: WorkerRuntime, H: JournalHub + Drop, S: Services> Worker<R, H, S> {
     pub fn serve(&mut self, stream: TcpStream, raw: SocketAddr) -> Option<ServeEnd> {
         let local = stream.local_addr().ok()?;
         let control = self.control(stream)?;
-        let handle = control.handle().ok()?;
+        let Ok(handle) = control.handle() else {
+            drop(control);
+            return None;
+        };
         let session = self.state.hub.draw();
         let trace = self.trace();
         let opening = HubEvent {
@@ -77,11 +80,20 @@ impl<R: WorkerRuntime, H: JournalHub + Drop, S: Services> Worker<R, H, S> {
         ),
     > {
         let state = Arc::try_clone(&self.state).ok()?;
-        let handoff = Arc::try_clone(&self.state.handoff).ok()?;
-        let words = self.state.depot.words().ok()?;
+        let Ok(handoff) = Arc::try_clone(&self.state.handoff) else {
+            drop(state);
+            return None;
+        };
+        let Ok(words) = self.state.depot.words() else {
+            drop(handoff);
+            drop(state);
+            return None;
+        };
         if self.state.handoff.enter(&self.rt, session, handle) {
             Some((words, state, handoff))
         } else {
+            drop(handoff);
+            drop(state);
             None
         }
     }
@@ -104,7 +116,11 @@ impl<R: WorkerRuntime, H: JournalHub + Drop, S: Services> Worker<R, H, S> {
             Some((words, state, handoff)) => {
                 self.talk_with(control, words, state, handoff, session, at, opening, answer)
             }
-            None => None,
+            None => {
+                drop(opening);
+                drop(answer);
+                None
+            }
         }
     }
 
@@ -128,6 +144,8 @@ impl<R: WorkerRuntime, H: JournalHub + Drop, S: Services> Worker<R, H, S> {
         let system = SystemEdge::new(self.rt, self.alloc, at, LIMIT);
         let mut edge = SessionEdge::new(self.rt, self.alloc, session, handoff, system);
         let end = if control.look() {
+            drop(opening);
+            drop(answer);
             None
         } else {
             Some(serve_control_with(
@@ -147,6 +165,8 @@ impl<R: WorkerRuntime, H: JournalHub + Drop, S: Services> Worker<R, H, S> {
         }
         self.state.handoff.leave(&self.rt, session);
         let _ = control.close();
+        drop(edge);
+        drop(control);
         end
     }
 }

@@ -124,9 +124,10 @@ impl<
         ensures refused { self.new.refused ≡ self.old.refused }
     {
         // A job may start at once, in another thread: the link has to be in its place before.
-        if self.state.handoff.keep_link(&self.rt, number, link)
-            && self.submit_event(event, answer).is_err()
-        {
+        if !self.state.handoff.keep_link(&self.rt, number, link) {
+            drop(event);
+            drop(answer);
+        } else if self.submit_event(event, answer).is_err() {
             drop(self.state.handoff.take_link(&self.rt, number));
         }
     }

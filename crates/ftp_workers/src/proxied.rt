@@ -66,8 +66,14 @@ impl<R: WorkerRuntime, H: JournalHub + Drop, S: Services> Worker<R, H, S> {
             &mut link,
             &mut self.edge,
         )?;
-        let link = self.behind_header(link)?;
-        Some((event, answer, link))
+        match self.behind_header(link) {
+            Some(link) => Some((event, answer, link)),
+            None => {
+                drop(event);
+                drop(answer);
+                None
+            }
+        }
     }
 
     // A connection whose header was read, with what came behind that. None where memory ran out.
@@ -115,6 +121,10 @@ impl<R: WorkerRuntime, H: JournalHub + Drop, S: Services> Worker<R, H, S> {
         if let Some(client) = self.admitted(&answer, &mut link) {
             self.serve_proxied(number, link, event, answer);
             self.state.exit(&self.rt, client);
+        } else {
+            drop(link);
+            drop(event);
+            drop(answer);
         }
     }
 
@@ -131,6 +141,9 @@ impl<R: WorkerRuntime, H: JournalHub + Drop, S: Services> Worker<R, H, S> {
     {
         if let Some((control, handle, at)) = self.proxied_control(link) {
             let _ = self.talk(control, handle, number, at, event, answer);
+        } else {
+            drop(event);
+            drop(answer);
         }
     }
 
@@ -142,7 +155,10 @@ impl<R: WorkerRuntime, H: JournalHub + Drop, S: Services> Worker<R, H, S> {
         let PendingConnection { stream, ahead } = link;
         let local = stream.local_addr().ok()?;
         let control = self.control(net::TcpStream::from(stream))?;
-        let handle = control.handle().ok()?;
+        let Ok(handle) = control.handle() else {
+            drop(control);
+            return None;
+        };
         let (mut control, mut ahead) = (control, ahead);
         control.keep_text(&mut ahead);
         Some((Ahead::new(control, ahead), handle, local.ip()))
