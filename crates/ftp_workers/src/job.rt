@@ -98,7 +98,11 @@ impl<
             StopsOnItsOwn (site (views D.Store.files D.Store.rule D.Store.faults D.Store.fault_limit D.Store.calls K.left K.sending K.faults K.fault_limit K.calls) D.Store.reads_take_memory K.takes_memory)
             job told link.old link.new)) }
     {
-        let mut storage = self.depot.store().ok()?;
+        let Ok(storage) = self.depot.store() else {
+            drop(job);
+            return None;
+        };
+        let mut storage = storage;
         let call = self.handoff.next_call();
         serve_job(
             rt,
