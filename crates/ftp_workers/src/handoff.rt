@@ -270,7 +270,10 @@ impl Handoff {
                 let _ = self.acceptor.waker.wake();
                 true
             }
-            Err(_) => false,
+            Err(refused) => {
+                drop(refused);
+                false
+            }
         }
     }
 

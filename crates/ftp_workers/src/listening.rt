@@ -114,7 +114,7 @@ impl Handoff {
                 port,
                 since,
             };
-            let _ = listeners.insert(session, waiting);
+            drop(listeners.insert(session, waiting));
         }
     }
 
@@ -127,7 +127,7 @@ impl Handoff {
         };
         drop(listeners.swap_remove(&session));
         if let Ok((stream, raw)) = accepted {
-            let _ = listeners.insert(session, Listening::Closed(stream, raw));
+            drop(listeners.insert(session, Listening::Closed(stream, raw)));
         }
         Some(port)
     }

@@ -44,7 +44,10 @@ pub(crate) fn start_job(
         handle,
         kept: None,
     };
-    jobs.insert(session, job).is_ok()
+    let before = jobs.insert(session, job);
+    let is_kept = before.is_ok();
+    drop(before);
+    is_kept
 }
 
 /// From now on the job runs, and is kept for the thread of its session, which has no other. Says whether there was room.
@@ -60,7 +63,10 @@ pub(crate) fn keep_job(jobs: &mut IndexMap<u64, RunningJob>, job: JobShare) -> b
         handle: None,
         kept: Some(job),
     };
-    jobs.insert(session, running).is_ok()
+    let before = jobs.insert(session, running);
+    let is_kept = before.is_ok();
+    drop(before);
+    is_kept
 }
 
 /// The job that is kept for the thread of the session. It runs on, and is kept no longer.

@@ -77,6 +77,7 @@ impl<
         requires options { options ≡ H.options }
     {
         let Ok(handoff) = Arc::new(alloc, Handoff::new(alloc, acceptor)) else {
+            drop(options);
             return Err(AllocError);
         };
         Ok(ServerState {
