@@ -3,6 +3,7 @@
 ghost use Rattle.std.specs.Prelude.{◌≡◌, ◌≤◌, false};
 ghost use Rattle.ftp_base.specs.Outside.{HasRisen};
 
+use crate::running::share_state;
 use ftp_base::Spawner;
 use ftp_shared::JournalHub;
 use ftp_system::{Depot, ServerRuntime, start};
@@ -25,11 +26,7 @@ where
     ensures fault_rose { result ≡ false → HasRisen (P.faults spawner.old) (P.faults spawner.new) }
     ensures count { P.faults spawner.old ≤ P.faults spawner.new }
 {
-    let Some(pass) = state.share(rt) else {
-        return true;
-    };
-    let Ok(theirs) = Arc::try_clone(state) else {
-        state.take_back(rt, pass);
+    let Some((theirs, pass)) = share_state::<R, H, S>(rt, state) else {
         return true;
     };
     let rt = *rt;
