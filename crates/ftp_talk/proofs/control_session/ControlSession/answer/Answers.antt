@@ -46,8 +46,8 @@ returns-in-Ok-say_for-clause-spoke g c = λ q ts pieces step vouches before desk
           (subst (λ (s : ℕ). IsPaused (piece_delays (said_pieces s (epsv_port c.args.is_epsv e.decision) told.earlier e.actions)) (g.E.Edge.view c.args.edge.now).paused (g.E.Edge.view c.say_for.new.edge).paused) session (rw (c.epsv_port-port.ensures, c.as_slice.ensures, c.as_slice-2.ensures) at c.in-Ok-say_for.ensures.paused));
     }
 
-pub returns-clause-spoke : goal.returns-clause-spoke
-returns-clause-spoke g c = λ q ts pieces step vouches before desk0 desk kind same a n.
+pub returns-in-Err-clause-spoke : goal.returns-in-Err-clause-spoke
+returns-in-Err-clause-spoke g c = λ q ts pieces step vouches before desk0 desk kind same a n.
     let told = c.args.told.now in
     let e = told.entry in
     let session = c.learn.ensures.session ∙ a.known.session in
