@@ -100,66 +100,33 @@ fn work<L: Serving + Send + Sync, R: Threads + Wait + Sync>(
     ensures counted { IfOk result (λ shares. sum_by (λ s. s.count) shares.items ≡ events_in lane) }
 {
     match crew {
-        Crew::One => work_alone(rt, alloc, hub, lane),
-        Crew::Two => work_in_two(rt, alloc, hub, lane),
-        Crew::Four => work_in_four(rt, alloc, hub, lane),
+        Crew::One => {
+            let share = connect_all(rt, hub, lane)?;
+            let share = ask_all(rt, alloc, hub, share, lane)?;
+            let mut shares = Vec::with_capacity(alloc, 1)?;
+            shares.push_reserved(share);
+            Ok(shares)
+        }
+        Crew::Two => {
+            let pair = (connect_all(rt, hub, lane)?, fresh(rt, hub)?);
+            let (first, second) = ask_two(rt, alloc, hub, pair, lane)?;
+            let mut shares = Vec::with_capacity(alloc, 2)?;
+            shares.push_reserved(first);
+            shares.push_reserved(second);
+            Ok(shares)
+        }
+        Crew::Four => {
+            let front = (connect_all(rt, hub, lane)?, fresh(rt, hub)?);
+            let back = (fresh(rt, hub)?, fresh(rt, hub)?);
+            let (front, back) = ask_four(rt, alloc, hub, front, back, lane)?;
+            let mut shares = Vec::with_capacity(alloc, 4)?;
+            shares.push_reserved(front.0);
+            shares.push_reserved(front.1);
+            shares.push_reserved(back.0);
+            shares.push_reserved(back.1);
+            Ok(shares)
+        }
     }
-}
-
-/// The share of one thread that submits the events of a lane.
-fn work_alone<L: Serving, R: Wait>(
-    rt: &R,
-    alloc: Global,
-    hub: &SharedHub<L>,
-    lane: Lane,
-) -> Result<Vec<StepShare<L>>, BenchError>
-    ensures threads { IfOk result (λ shares. vec_len shares ≡ 1) }
-    ensures counted { IfOk result (λ shares. sum_by (λ s. s.count) shares.items ≡ events_in lane) }
-{
-    let share = connect_all(rt, hub, lane)?;
-    let share = ask_all(rt, alloc, hub, share, lane)?;
-    let mut shares = Vec::with_capacity(alloc, 1)?;
-    shares.push_reserved(share);
-    Ok(shares)
-}
-
-/// The shares of two threads that submit the events of a lane.
-fn work_in_two<L: Serving + Send + Sync, R: Threads + Wait + Sync>(
-    rt: &R,
-    alloc: Global,
-    hub: &SharedHub<L>,
-    lane: Lane,
-) -> Result<Vec<StepShare<L>>, BenchError>
-    ensures threads { IfOk result (λ shares. vec_len shares ≡ 2) }
-    ensures counted { IfOk result (λ shares. sum_by (λ s. s.count) shares.items ≡ events_in lane) }
-{
-    let pair = (connect_all(rt, hub, lane)?, fresh(rt, hub)?);
-    let (first, second) = ask_two(rt, alloc, hub, pair, lane)?;
-    let mut shares = Vec::with_capacity(alloc, 2)?;
-    shares.push_reserved(first);
-    shares.push_reserved(second);
-    Ok(shares)
-}
-
-/// The shares of four threads that submit the events of a lane.
-fn work_in_four<L: Serving + Send + Sync, R: Threads + Wait + Sync>(
-    rt: &R,
-    alloc: Global,
-    hub: &SharedHub<L>,
-    lane: Lane,
-) -> Result<Vec<StepShare<L>>, BenchError>
-    ensures threads { IfOk result (λ shares. vec_len shares ≡ 4) }
-    ensures counted { IfOk result (λ shares. sum_by (λ s. s.count) shares.items ≡ events_in lane) }
-{
-    let front = (connect_all(rt, hub, lane)?, fresh(rt, hub)?);
-    let back = (fresh(rt, hub)?, fresh(rt, hub)?);
-    let (front, back) = ask_four(rt, alloc, hub, front, back, lane)?;
-    let mut shares = Vec::with_capacity(alloc, 4)?;
-    shares.push_reserved(front.0);
-    shares.push_reserved(front.1);
-    shares.push_reserved(back.0);
-    shares.push_reserved(back.1);
-    Ok(shares)
 }
 
 /// A share with no step counted.
