@@ -98,6 +98,7 @@ impl Checker {
         ensures keeps { self.new.keeps ≡ self.old.keeps }
     {
         if self.came < self.due.as_slice().len() {
+            drop(event);
             return Some(self.other_actions());
         }
         self.event = Some(event);
@@ -131,7 +132,10 @@ impl Checker {
     {
         match self.hub.prepare(&event) {
             Ok(room) => self.compare(room, event, decision),
-            Err(_) => Err(AllocError),
+            Err(_) => {
+                drop(event);
+                Err(AllocError)
+            }
         }
     }
 
@@ -151,11 +155,16 @@ impl Checker {
         let entry = self.hub.step(room, event, self.answer);
         let due = entry.decision;
         if !is_same_decision(due, decision) {
+            drop(entry);
             return Ok(Some(Verdict::Decided { entries, due }));
         }
-        keep(self.alloc, self.keeps, &mut self.log, &entry)?;
+        if let Err(error) = keep(self.alloc, self.keeps, &mut self.log, &entry) {
+            drop(entry);
+            return Err(error);
+        }
         self.due = entry.actions;
         self.came = 0;
+        drop(entry.event);
         Ok(None)
     }
 

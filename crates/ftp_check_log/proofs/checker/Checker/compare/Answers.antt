@@ -17,4 +17,4 @@ returns-clause-compared c =
     takes-decision (record it { event = Some c.args.event }) (record it { hub = c.step-entry.new.self; log = c.keep.new.log; due = c.step-entry.result.actions; came = 0 }) c.args.decision c.args.event c.step-entry.result refl c.step-entry.ensures.event
     c.step-entry.ensures.answer
     (c.is_same_decision.ensures.0 c.if-not-is_same_decision.false)
-    c.step-entry.ensures.options c.step-entry.ensures.count c.step-entry.ensures.stands refl refl refl c.in_ok-keep.ensures
+    c.step-entry.ensures.options c.step-entry.ensures.count c.step-entry.ensures.stands refl refl refl c.in_default.ensures
