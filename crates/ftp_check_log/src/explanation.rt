@@ -1,9 +1,11 @@
 //! Why an entry of a printed log was decided as it was.
 
-ghost use Rattle.std.specs.Prelude.{◌≤◌, IfOk, IfSome, IsErrOf};
+ghost use Rattle.std.specs.Prelude.{◌≡◌, ◌≤◌, [], true, IfOk, IfSome, IsErrOf};
 ghost use Rattle.ftp_base.specs.declared.fault.Failed.TheVariants.{Fault};
 ghost use Rattle.ftp_base.specs.Outside.{HasRisen};
 ghost use Rattle.ftp_events.specs.Right.{IsRight};
+ghost use Rattle.ftp_text.specs.Place.{IsLawful};
+ghost use Rattle.ftp_check_log.specs.Checks.{Checks};
 ghost use Rattle.ftp_check_log.specs.Explanations.{TellsWhy, Explains, TellsOfLog, TellsOfRight, IsRightAsSaid};
 ghost use Rattle.ftp_check_log.specs.declared.verdict.Verdict.{Verdict};
 ghost use Rattle.ftp_check_log.specs.Verdicts.{TellsOfText};
@@ -46,7 +48,27 @@ pub fn explain<S: Source>(alloc: Global, source: &mut S, k: u64) -> Result<Expla
     ensures count { S.faults source.old ≤ S.faults source.new }
 {
     let mut checker = Checker::new(alloc, true);
-    match verdict_of(alloc, &mut checker, source) {
+    let explanation = explain_by(alloc, &mut checker, source, k);
+    drop(checker);
+    explanation
+}
+
+// What the log that the source gives tells of its entry at place `k`, by a checker that has read nothing and keeps entries.
+fn explain_by<S: Source>(
+    alloc: Global,
+    checker: &mut Checker,
+    source: &mut S,
+    k: u64,
+) -> Result<Explanation, Failed>
+    requires lawful { IsLawful checker.old.place }
+    requires start { Checks checker.old [] [] [] }
+    requires keeps { checker.old.keeps ≡ true }
+    ensures tells { IfOk result (λ x. IfSome (S.left source.old) (λ bytes. TellsWhy k x bytes)) }
+    ensures verdict { IfOk result (λ x. IfSome (S.left source.old) (λ bytes. (v : Verdict) → TellsOfText v bytes → Explains k x v)) }
+    ensures fault_rose { IsErrOf result Fault → HasRisen (S.faults source.old) (S.faults source.new) }
+    ensures count { S.faults source.old ≤ S.faults source.new }
+{
+    match verdict_of(alloc, checker, source) {
         Ok(verdict) => explained(alloc, checker.hub.options(), &checker.log, verdict, k),
         Err(failed) => Err(failed),
     }

@@ -41,7 +41,9 @@ pub fn check<S: Source>(alloc: Global, source: &mut S) -> Result<Verdict, Failed
     ensures count { S.faults source.old ≤ S.faults source.new }
 {
     let mut checker = Checker::new(alloc, false);
-    verdict_of(alloc, &mut checker, source)
+    let verdict = verdict_of(alloc, &mut checker, source);
+    drop(checker);
+    verdict
 }
 
 /// What the check of all that the source gives comes to, by a checker that has read nothing.
