@@ -38,16 +38,39 @@ pub fn audit_lines<S: Source, K: Sink>(
     let mut reader = ScriptReader::new(alloc);
     let mut run = Run::new(alloc);
     let mut audit = Audit::new(alloc);
+    let status = hear_all(
+        alloc,
+        &mut reader,
+        &mut run,
+        &mut audit,
+        buffer,
+        source,
+        sink,
+    );
+    drop(audit);
+    drop(run);
+    drop(reader);
+    status
+}
+
+// Reads line after line, up to the end, and has the audit hear what they ask for.
+fn hear_all<S: Source, K: Sink>(
+    alloc: Global,
+    reader: &mut ScriptReader,
+    run: &mut Run,
+    audit: &mut Audit,
+    buffer: &mut [u8],
+    source: &mut S,
+    sink: &mut K,
+) -> Status
+    requires lawful { IsLawful reader.old buffer.old }
+    requires hearing { Hearing (S.left source.old) reader.old run.old audit.old buffer.old (S.left source.old) }
+    ensures outcome { IfSome (S.left source.old) (λ bytes.
+        AuditOutcome result (HasRisen (S.faults source.old) (S.faults source.new)) bytes (S.left source.new) (K.written sink.old) (K.written sink.new)) }
+    ensures faults { TellsFaults (Some result) (S.faults source.old) (S.faults source.new) (K.faults sink.old) (K.faults sink.new) }
+{
     loop {
-        if let Some(status) = hear(
-            alloc,
-            &mut reader,
-            &mut run,
-            &mut audit,
-            buffer,
-            source,
-            sink,
-        ) {
+        if let Some(status) = hear(alloc, reader, run, audit, buffer, source, sink) {
             return status;
         }
     }

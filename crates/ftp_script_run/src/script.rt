@@ -203,8 +203,29 @@ fn run_lines<S: Source, K: Sink>(
 {
     let mut reader = ScriptReader::new(alloc);
     let mut run = Run::new(alloc);
+    let status = run_all(alloc, ending, &mut reader, &mut run, buffer, source, sink);
+    drop(run);
+    drop(reader);
+    status
+}
+
+// Runs line after line, up to the end.
+fn run_all<S: Source, K: Sink>(
+    alloc: Global,
+    ending: Ending,
+    reader: &mut ScriptReader,
+    run: &mut Run,
+    buffer: &mut [u8],
+    source: &mut S,
+    sink: &mut K,
+) -> Status
+    requires lawful { IsLawful reader.old buffer.old }
+    requires running { Running None (S.left source.old) reader.old run.old buffer.old (S.left source.old) (K.written sink.old) (K.written sink.old) }
+    ensures outcome { IfSome (S.left source.old) (λ bytes. Outcome ending result bytes (S.left source.new) (K.written sink.old) (K.written sink.new)) }
+    ensures faults { TellsFaults (Some result) (S.faults source.old) (S.faults source.new) (K.faults sink.old) (K.faults sink.new) }
+{
     loop {
-        if let Some(status) = advance(alloc, ending, &mut reader, &mut run, buffer, source, sink) {
+        if let Some(status) = advance(alloc, ending, reader, run, buffer, source, sink) {
             return status;
         }
     }

@@ -1,28 +1,16 @@
-use Rattle.std.proofs.Common.{[], arith, ap, refl}
+use Rattle.std.proofs.Common.{[]}
 use Rattle.ftp_script_run.proofs.OutcomeLemmas.{told-start}
-use Rattle.ftp_script_run.proofs.AuditLemmas.{audit-ends}
 use Rattle.ftp_script_run.proofs.auditing.audit_lines.Goals as goal
 
-pub loop-status-init : goal.loop-status-init
-loop-status-init g c = record {
-  lawful = c.new-reader.ensures.lawful c.args.buffer.now c.requires;
-  hearing = record {
-    items = [];
-    log = [];
-    known = c.new-reader.ensures.none;
-    kept = c.new-run.ensures;
-    heard = c.new-audit.ensures.heard;
-    read = told-start (g.S.Source.left c.args.source.now) c.new-reader.result c.args.buffer.now (λ bytes. c.new-reader.ensures.start c.args.buffer.now bytes);
-  };
-  source_count = omega arith;
-  quiet = refl;
-}
+pub hear_all-status-requires-clause-lawful : goal.hear_all-status-requires-clause-lawful
+hear_all-status-requires-clause-lawful g c = c.new-reader.ensures.lawful c.args.buffer.now c.requires
 
-pub returns-in-Some-clause-outcome : goal.returns-in-Some-clause-outcome
-returns-in-Some-clause-outcome g c =
-    audit-ends (g.S.Source.left c.args.source.now) (g.S.Source.left c.hear.new.source)
-    (g.K.Sink.written c.loop-status.sink) (g.K.Sink.written c.args.sink.now) (g.K.Sink.written c.hear.new.sink)
-    (g.S.Source.faults c.args.source.now) (g.S.Source.faults c.loop-status.source) (g.S.Source.faults c.hear.new.source) c.in-Some.status
-    c.loop-status.invariant.source_count c.hear.ensures.faults.source_count
-    (ap (λ sink. g.K.Sink.written sink) c.loop-status.invariant.quiet)
-    (c.in-Some.ensures.ended (g.S.Source.left c.args.source.now) c.loop-status.invariant.hearing)
+pub hear_all-status-requires-clause-hearing : goal.hear_all-status-requires-clause-hearing
+hear_all-status-requires-clause-hearing g c = record {
+  items = [];
+  log = [];
+  known = c.new-reader.ensures.none;
+  kept = c.new-run.ensures;
+  heard = c.new-audit.ensures.heard;
+  read = told-start (g.S.Source.left c.args.source.now) c.new-reader.result c.args.buffer.now (λ bytes. c.new-reader.ensures.start c.args.buffer.now bytes);
+}
