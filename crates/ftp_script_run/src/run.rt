@@ -134,14 +134,28 @@ impl Run {
         ensures only_memory { IfErr result (λ e. e ≡ Memory) }
     {
         match item {
-            Item::Event(event) => {
-                let entry = self.step(event)?;
-                match audit.take(&entry) {
-                    Ok(()) => Ok(()),
-                    Err(_) => Err(Failed::Memory),
-                }
-            }
+            Item::Event(event) => self.note_event(event, audit),
             other => self.set_up(other),
+        }
+    }
+
+    // Runs the event, has its entry taken by the audit and lets it go.
+    fn note_event(&mut self, event: HubEvent, audit: &mut Audit) -> Result<(), Failed>
+        requires { MayTake self.old (item.Event event) }
+        ensures noted { OnOk result ((items : List Item) (log : List Entry) → Keeps None self.old items log → may_stand items (item.Event event) ≡ true → HasHeard audit.old log →
+            IsNoted self.new (items ++ item.Event event ∷ []) log audit.new) }
+        ensures only_memory { IfErr result (λ e. e ≡ Memory) }
+    {
+        let entry = self.step(event)?;
+        match audit.take(&entry) {
+            Ok(()) => {
+                drop(entry);
+                Ok(())
+            }
+            Err(_) => {
+                drop(entry);
+                Err(Failed::Memory)
+            }
         }
     }
 
@@ -268,7 +282,9 @@ impl Run {
             IsPartlyTaken before self.new (items ++ item.Event event ∷ []) log (K.written sink.old) (K.written sink.new)) }
     {
         let entry = self.step(event)?;
-        print_entry(sink, &mut self.text, &entry)
+        let written = print_entry(sink, &mut self.text, &entry);
+        drop(entry);
+        written
     }
 
     // Runs the event. The hub's count of events cannot end in a script, which has far fewer lines.

@@ -14,22 +14,22 @@ pub returns-clause-took : goal.returns-clause-took
 returns-clause-took g c =
     let e = c.in_ok-entry.entry in
     let step = c.step.new.self in
-    on_ok-then c.print_entry.result c.print_entry.ensures.wrote (λ wrote before items log kept may. (
+    on_ok-then c.print_entry-written.result c.print_entry-written.ensures.wrote (λ wrote before items log kept may. (
       e ∷ [],
       keeps-text before step
-          (record { alloc = step.alloc; hub = step.hub; storage = step.storage; links = step.links; text = c.print_entry.new.text })
+          (record { alloc = step.alloc; hub = step.hub; storage = step.storage; links = step.links; text = c.print_entry-written.new.text })
           _ _ refl refl (c.in_ok-entry.ensures.due before items log kept may),
-      subst (Writes (g.K.Sink.written c.args.sink.now) (g.K.Sink.written c.print_entry.new.sink)) (sym (log_lines-one e)) wrote,
+      subst (Writes (g.K.Sink.written c.args.sink.now) (g.K.Sink.written c.print_entry-written.new.sink)) (sym (log_lines-one e)) wrote,
     ))
 
 pub returns-clause-front : goal.returns-clause-front
 returns-clause-front g c =
     let e = c.in_ok-entry.entry in
     let step = c.step.new.self in
-    on_err-then c.print_entry.result c.print_entry.ensures.front (λ front before items log kept may. inr (
+    on_err-then c.print_entry-written.result c.print_entry-written.ensures.front (λ front before items log kept may. inr (
       e ∷ [],
       keeps-text before step
-          (record { alloc = step.alloc; hub = step.hub; storage = step.storage; links = step.links; text = c.print_entry.new.text })
+          (record { alloc = step.alloc; hub = step.hub; storage = step.storage; links = step.links; text = c.print_entry-written.new.text })
           _ _ refl refl (c.in_ok-entry.ensures.due before items log kept may),
-      subst (WritesFront (g.K.Sink.written c.args.sink.now) (g.K.Sink.written c.print_entry.new.sink)) (sym (log_lines-one e)) front,
+      subst (WritesFront (g.K.Sink.written c.args.sink.now) (g.K.Sink.written c.print_entry-written.new.sink)) (sym (log_lines-one e)) front,
     ))
