@@ -37,24 +37,22 @@ pub place-after : (old new : Run) (more : List EventKind) (m n : ℕ) → HasPla
 place-after old new more m n place took le = (place.0 ++ more, took place.0 place.1, omega (arith, place.2, le, length-append place.0 more))
 
 -- an event was run and its decision counted
-pub takes-one : (old new : Run) (mid : Hub) (e : Entry) (k : EventKind) →
+pub takes-one : (old new : Run) (mid : Hub) (k : EventKind) →
     SameAnswers old.hub mid →
-    ((log : List Entry) → Stands mid log → e ≡ next_entry (options_of mid) log (record { at = 0; kind = k }) answer.None) →
-    ((log : List Entry) → Stands mid log → Stands new.hub (e ∷ log)) →
+    ((log : List Entry) → Stands mid log → Stands new.hub (next_entry (options_of mid) log (record { at = 0; kind = k }) answer.None ∷ log)) →
+    ((log : List Entry) → Stands mid log → AreCounts old.counts.numbers log → AreCounts new.counts.numbers (next_entry (options_of mid) log (record { at = 0; kind = k }) answer.None ∷ log)) →
     options_of new.hub ≡ options_of mid →
     count_of new.hub ≡ count_of mid + 1 →
-    ((log : List Entry) → AreCounts old.counts.numbers log → AreCounts new.counts.numbers (e ∷ log)) →
     Takes old (k ∷ []) new
-takes-one old new mid e k same due stands options count counted = λ ks kept.
+takes-one old new mid k same stands counted options count = λ ks kept.
     let mid_stands : Stands mid (log_after ks) = stands-same old.hub mid (log_after ks) same kept.stands in
     let set : options_of mid ≡ stress_options = same.head.options ∙ kept.options in
-    let next : e ∷ log_after ks ≡ log_after (ks ++ k ∷ []) =
-    ap (λ (x : Entry). x ∷ log_after ks) (due (log_after ks) mid_stands ∙ ap (λ (o : Options). next_entry o (log_after ks) (record { at = 0; kind = k }) answer.None) set)
-    ∙ sym (log_after-more ks k) in
+    let next : next_entry (options_of mid) (log_after ks) (record { at = 0; kind = k }) answer.None ∷ log_after ks ≡ log_after (ks ++ k ∷ []) =
+    ap (λ (o : Options). next_entry o (log_after ks) (record { at = 0; kind = k }) answer.None ∷ log_after ks) set ∙ sym (log_after-more ks k) in
     record {
       options = options ∙ set;
       stands = subst (Stands new.hub) next (stands (log_after ks) mid_stands);
-      counts = subst (AreCounts new.counts.numbers) next (counted (log_after ks) kept.counts);
+      counts = subst (AreCounts new.counts.numbers) next (counted (log_after ks) mid_stands kept.counts);
       events = omega (arith, count, same.head.count, kept.events, length-append ks (k ∷ []));
     }
 

@@ -1,11 +1,16 @@
 //! A run, event by event.
 
-ghost use Rattle.std.specs.Prelude.{◌≡◌, ◌*◌, ◌≤◌, ◌∷◌, [], List, map, flat_map, None, OnOk, OnErr, IfOk, IsErrOf};
+ghost use Rattle.std.specs.Prelude.{◌≡◌, ◌+◌, ◌-◌, ◌*◌, ◌^◌, ◌≤◌, ◌<◌, ◌∷◌, [], List, length, map, flat_map, None, OnOk, OnErr, IfOk, IsErrOf};
 ghost use Rattle.ftp_base.specs.declared.fault.Failed.TheVariants.{Fault};
 ghost use Rattle.ftp_base.specs.Outside.{HasRisen, Writes};
 ghost use Rattle.ftp_control.specs.Writing.{WritesFront};
 ghost use Rattle.std.specs.List.{range_with_len};
 ghost use Rattle.ftp_options.specs.Builder.{settings_of};
+ghost use Rattle.ftp_events.specs.declared.entry.Entry.{Entry};
+ghost use Rattle.ftp_events.specs.declared.event.Answer.TheVariants as answer;
+ghost use Rattle.ftp_events.specs.Right.{next_entry};
+ghost use Rattle.ftp_hub.specs.Stands.{Fits, Stands, options_of, count_of};
+ghost use Rattle.ftp_script_run.specs.Counts.{AreCounts};
 ghost use Rattle.ftp_script_run.specs.Events.{login_of, drawn};
 ghost use Rattle.ftp_script_run.specs.Stress.{stress_options, stress_lines};
 ghost use Rattle.ftp_script_run.specs.Keeping.{Keeps, HasPlace, Takes};
@@ -16,7 +21,7 @@ use crate::events::{chosen, connect};
 use ftp_base::{AuthAnswer, Bytes, Failed, Sink};
 use ftp_control::write_all;
 use ftp_events::{Answer, EventKind, HubEvent};
-use ftp_hub::{Hub, PrepareError};
+use ftp_hub::{Hub, PrepareError, Room};
 use ftp_options::{Options, ServerBuilder};
 use std::alloc::{AllocError, Global};
 
@@ -58,9 +63,9 @@ fn lines(alloc: Global, seed: u64, sessions: u64) -> Result<Vec<u8>, AllocError>
     ensures { IfOk result (λ text. text.items ≡ stress_lines seed sessions) }
 {
     let mut run = Run::new(alloc);
-    run.log_in_all(sessions)?;
-    run.draw_all(seed, sessions)?;
-    run.counts.lines(alloc)
+    let lines = run.lines(seed, sessions);
+    drop(run);
+    lines
 }
 
 // The hub, and how often it decided so. Of events and entries nothing is kept.
@@ -81,6 +86,18 @@ impl Run {
             hub: Hub::new(alloc, options(alloc)),
             counts: Counts::new(),
         }
+    }
+
+    // Runs the logins and the drawn events, and gives the lines of what was counted.
+    fn lines(&mut self, seed: u64, sessions: u64) -> Result<Vec<u8>, AllocError>
+        requires new { Keeps self.old [] }
+        requires some { 1 ≤ sessions }
+        requires limit { sessions ≤ 1000 }
+        ensures { IfOk result (λ text. text.items ≡ stress_lines seed sessions) }
+    {
+        self.log_in_all(sessions)?;
+        self.draw_all(seed, sessions)?;
+        self.counts.lines(self.alloc)
     }
 
     // Lets all sessions log in.
@@ -131,14 +148,31 @@ impl Run {
         ensures { OnOk result (Takes self.old (kind ∷ []) self.new) }
     {
         let event = HubEvent { at: 0, kind };
-        let room = match self.hub.prepare(&event) {
-            Ok(room) => room,
-            Err(PrepareError::OutOfMemory) => return Err(AllocError),
+        match self.hub.prepare(&event) {
+            Ok(room) => {
+                self.count(room, event);
+                Ok(())
+            }
+            Err(PrepareError::OutOfMemory) => {
+                drop(event);
+                Err(AllocError)
+            }
             Err(PrepareError::Exhausted) => unreachable!(),
-        };
+        }
+    }
+
+    // Decides the event in this room, counts its decision and lets its entry go.
+    fn count(&mut self, room: Box<Room>, event: HubEvent)
+        requires fits { Fits room.value self.old.hub event }
+        requires counts { (log : List Entry) × AreCounts self.old.counts.numbers log × (length log < 2 ^ 64 - 1) }
+        ensures stands { (log : List Entry) → Stands self.old.hub log → Stands self.new.hub (next_entry (options_of self.old.hub) log event answer.None ∷ log) }
+        ensures counts { (log : List Entry) → Stands self.old.hub log → AreCounts self.old.counts.numbers log → AreCounts self.new.counts.numbers (next_entry (options_of self.old.hub) log event answer.None ∷ log) }
+        ensures options { options_of self.new.hub ≡ options_of self.old.hub }
+        ensures count { count_of self.new.hub ≡ count_of self.old.hub + 1 }
+    {
         let entry = self.hub.step(room, event, Answer::None);
         self.counts.add(&entry);
-        Ok(())
+        drop(entry);
     }
 }
 
