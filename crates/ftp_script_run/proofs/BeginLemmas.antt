@@ -17,7 +17,7 @@ use Rattle.ftp_script_run.specs.declared.run.Run.{Run}
 use Rattle.ftp_script_run.specs.declared.text_script.ScriptError.TheVariants as error
 use Rattle.ftp_script_run.specs.Items.{event_in}
 use Rattle.ftp_script_run.specs.Legal.{start_of}
-use Rattle.ftp_script_run.specs.Resumed.{AreOptionsOf, FindsHead, HasStateLines, IsBadHead, IsHead, IsOpenHead, KeepsLines, bar_place, sets_options}
+use Rattle.ftp_script_run.specs.Resumed.{AreOptionsOf, Finds, FindsHead, HasStateLines, IsBadHead, IsHead, IsOpenHead, KeepsLines, bar_place, sets_options}
 use Rattle.ftp_script_run.specs.Resuming.{IsBegunAt, GivesState}
 use Rattle.ftp_script_run.specs.Runs.{Keeps, MayCome, MayTake, outside}
 use Rattle.ftp_script_run.proofs.HeadLemmas.{by-options}
@@ -67,10 +67,6 @@ options-start run = by-options (λ i. Keeps None run (i ∷ []) [] → outside r
 
 -- ---- the state
 
--- what was found before a script
-abbrev pub Found : Head → List ℕ → List ℕ → Option (List ℕ) → Type 0
-Found head bytes held left = (texts : List (List ℕ)) × KeepsLines head texts × FindsHead head.is_closed head texts bytes held left
-
 -- with the line of two hyphens
 closed : (b : Bool) (head : Head) (texts : List (List ℕ)) (bytes held : List ℕ) (left : Option (List ℕ)) → b ≡ true → FindsHead b head texts bytes held left → FindsHead true head texts bytes held left
 closed b head texts bytes held left is found = subst (λ (c : Bool). FindsHead c head texts bytes held left) is found
@@ -82,7 +78,7 @@ state-lines false head texts bytes held left found = inr found.0
 
 -- a state that is not refused
 pub begun-at : (bytes held : List ℕ) (left : Option (List ℕ)) (head : Head) (o : Options) (x : HubState) (before : ℕ) →
-    Found head bytes held left →
+    Finds head bytes held left →
     ((texts : List (List ℕ)) → KeepsLines head texts → GivesState head texts (Ok x)) →
     AreOptionsOf head.options o →
     ((e : StateError) → HasCause o x e → ⊥) →
@@ -105,7 +101,7 @@ begun-at bytes held left head o x before found tells set passed place =
 
 -- a line that no state has there, or the one that is missing
 pub bad-lines : (k : ℕ) (bytes held : List ℕ) (left : Option (List ℕ)) (head : Head) →
-    Found head bytes held left →
+    Finds head bytes held left →
     ((texts : List (List ℕ)) → KeepsLines head texts → GivesState head texts (Err (error.BadLine k))) →
     IsBadHead k bytes
 bad-lines k bytes held left head found tells = by (tells found.0 found.1) where
@@ -125,7 +121,7 @@ bad-lines k bytes held left head found tells = by (tells found.0 found.1) where
 
 -- a state that the options refuse
 pub bad-state : (k : ℕ) (bytes held : List ℕ) (left : Option (List ℕ)) (head : Head) (o : Options) (x : HubState) (e : StateError) →
-    Found head bytes held left →
+    Finds head bytes held left →
     ((texts : List (List ℕ)) → KeepsLines head texts → GivesState head texts (Ok x)) →
     AreOptionsOf head.options o →
     HasCause o x e →

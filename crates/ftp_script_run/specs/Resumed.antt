@@ -128,6 +128,10 @@ pub record KeepsLines (head : Head) (texts : List (List ℕ)) : Type 0 where
   pub lines : lines_in head.text.items ≡ texts
   pub count : head.lines ≡ length texts
 
+-- lines of a state were found and kept
+abbrev pub Finds : Head → List ℕ → List ℕ → Option (List ℕ) → Type 0
+Finds head bytes held left = (texts : List (List ℕ)) × KeepsLines head texts × FindsHead head.is_closed head texts bytes held left
+
 -- a line was read: it is the first, and the rest is behind it; or there is none
 abbrev pub ReadsLine : Bool → List ℕ → List ℕ → List ℕ → Option (List ℕ) → Type 0
 ReadsLine true bytes line held left = (0 < length bytes) × (line ≡ first_line bytes) × Rest held left (behind_line bytes)

@@ -1,11 +1,11 @@
 //! Reading what stands before the script of a resumed run.
 
-ghost use Rattle.std.specs.Prelude.{◌≡◌, ◌⊎◌, ℕ, ◌≤◌, ◌++◌, ◌↔◌, List, [], true, false, length, IfOk, IfErr, IfNone, IfSome, IsErrOf};
+ghost use Rattle.std.specs.Prelude.{◌≡◌, ◌⊎◌, ℕ, ◌≤◌, ◌++◌, ◌↔◌, List, [], true, false, length, IfOk, IfErr, IfNone, IfSome, IsErrOf, OnOk};
 ghost use Rattle.ftp_base.specs.Outside.{HasRisen};
 ghost use Rattle.ftp_control.specs.Lines.{bytes_in, IsWithin};
 ghost use Rattle.ftp_text.specs.declared.setup.Item.{Item};
 ghost use Rattle.ftp_script_run.specs.declared.text_script.ScriptError.{ScriptError};
-ghost use Rattle.ftp_script_run.specs.Resumed.{AreOfOptions, FindsHead, IsOptionsLine, KeepsLines, ReadsHead, ReadsLine, bar, sets_options};
+ghost use Rattle.ftp_script_run.specs.Resumed.{AreOfOptions, Finds, FindsHead, IsOptionsLine, KeepsLines, ReadsHead, ReadsLine, bar, sets_options};
 
 use crate::admission::LONGEST_LINE;
 use crate::head::Head;
@@ -35,18 +35,50 @@ impl Head {
         ensures len { length buffer.new ≡ length buffer.old }
     {
         let mut line = Vec::new(alloc);
-        let (options, mut is_there) = read_options(alloc, buffer, held, source, &mut line)?;
+        let (options, is_there) = read_options(alloc, buffer, held, source, &mut line)?;
         let mut head = Head::new(alloc, options);
-        while is_there {
-            if is_bar(line.as_slice()) {
-                head.close();
-                return Ok(head);
+        match read_state(&mut head, is_there, buffer, held, source, &mut line) {
+            Ok(()) => Ok(head),
+            Err(error) => {
+                drop(head);
+                Err(error)
             }
-            head.add(line.as_slice())?;
-            is_there = read_line(buffer, held, source, &mut line)?;
         }
-        Ok(head)
     }
+}
+
+// Adds the line and those behind it, where it is there, up to that of two hyphens or to the end.
+fn read_state<S: Source>(
+    head: &mut Head,
+    has_line: bool,
+    buffer: &mut [u8],
+    held: &mut Span,
+    source: &mut S,
+    line: &mut Vec<u8>,
+) -> Result<(), ScriptError>
+    requires within { IsWithin buffer.old held.old }
+    requires len { length buffer.old ≡ 65537 }
+    requires text { head.old.text.items ≡ [] }
+    requires lines { head.old.lines ≡ 0 }
+    requires open { head.old.is_closed ≡ false }
+    ensures told { OnOk result ((bytes : List ℕ) → ReadsHead bytes head.old.options [] has_line line.old.items (bytes_in buffer.old held.old) (S.left source.old) → Finds head.new bytes (bytes_in buffer.new held.new) (S.left source.new)) }
+    ensures options { OnOk result (head.new.options ≡ head.old.options) }
+    ensures only { IfErr result (λ e. (e ≡ ScriptError.Fault) ⊎ (e ≡ ScriptError.Memory)) }
+    ensures fault_rose { IsErrOf result ScriptError.Fault → HasRisen (S.faults source.old) (S.faults source.new) }
+    ensures count { S.faults source.old ≤ S.faults source.new }
+    ensures within { IsWithin buffer.new held.new }
+    ensures len { length buffer.new ≡ length buffer.old }
+{
+    let mut is_there = has_line;
+    while is_there {
+        if is_bar(line.as_slice()) {
+            head.close();
+            return Ok(());
+        }
+        head.add(line.as_slice())?;
+        is_there = read_line(buffer, held, source, line)?;
+    }
+    Ok(())
 }
 
 // Reads an options line, where the first is one, and the line behind it or in its place. It says whether that one is there.
@@ -71,11 +103,35 @@ fn read_options<S: Source>(
         return Ok((None, false));
     }
     match options_in(alloc, line.as_slice())? {
-        Some(options) => {
-            let is_there = read_line(buffer, held, source, line)?;
-            Ok((Some(options), is_there))
-        }
+        Some(options) => read_behind(options, buffer, held, source, line),
         None => Ok((None, true)),
+    }
+}
+
+// Reads the line behind that of the options in its place.
+fn read_behind<S: Source>(
+    options: Item,
+    buffer: &mut [u8],
+    held: &mut Span,
+    source: &mut S,
+    line: &mut Vec<u8>,
+) -> Result<(Option<Item>, bool), ScriptError>
+    requires within { IsWithin buffer.old held.old }
+    requires len { length buffer.old ≡ 65537 }
+    ensures told { IfOk result (λ read. (read.0 ≡ Some options) ×
+        IfSome (S.left source.old) (λ left. ReadsLine read.1 (bytes_in buffer.old held.old ++ left) line.new.items (bytes_in buffer.new held.new) (S.left source.new))) }
+    ensures only { IfErr result (λ e. (e ≡ ScriptError.Fault) ⊎ (e ≡ ScriptError.Memory)) }
+    ensures fault_rose { IsErrOf result ScriptError.Fault → HasRisen (S.faults source.old) (S.faults source.new) }
+    ensures count { S.faults source.old ≤ S.faults source.new }
+    ensures within { IsWithin buffer.new held.new }
+    ensures len { length buffer.new ≡ length buffer.old }
+{
+    match read_line(buffer, held, source, line) {
+        Ok(is_there) => Ok((Some(options), is_there)),
+        Err(error) => {
+            drop(options);
+            Err(error)
+        }
     }
 }
 

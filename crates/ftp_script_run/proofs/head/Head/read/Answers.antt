@@ -1,86 +1,18 @@
-use Rattle.std.proofs.Common.{ℕ, true, Bool, List, [], ◌∷◌, ◌++◌, Option, arith, ap, subst, sym, ◌∙◌}
+use Rattle.std.proofs.Common.{[], ◌++◌, Option, subst, sym, ◌∙◌}
 use Rattle.std.proofs.lemmas.Option.{IfSome_then}
 use Rattle.ftp_control.specs.Lines.{bytes_in}
 use Rattle.ftp_text.specs.declared.setup.Item.{Item}
-use Rattle.ftp_script_run.specs.Resumed.{AreOfOptions, FindsHead, ReadsHead}
-use Rattle.ftp_script_run.proofs.HeadLemmas.{head-closed, head-more, head-open, keeps-more, keeps-nothing, keeps-same}
+use Rattle.ftp_script_run.specs.Resumed.{AreOfOptions, ReadsHead}
 use Rattle.ftp_script_run.proofs.head.Head.read.Goals as goal
 
-pub loop-is_there-init : goal.loop-is_there-init
-loop-is_there-init g c =
+pub returns-in-Ok-clause-told : goal.returns-in-Ok-clause-told
+returns-in-Ok-clause-told g c =
     let head = c.new-head in
-    record {
-      told =
-          IfSome_then (g.S.Source.left c.args.source.now) c.in_ok-options.ensures.told
-          (λ l r. (
-            [],
-            keeps-nothing head.result head.ensures.text head.ensures.lines,
-            subst (λ (o : Option Item). ReadsHead (bytes_in c.args.buffer.now c.args.held.now ++ l) o [] c.in_ok-options.is_there c.read_options.new.line.items (bytes_in c.read_options.new.buffer c.read_options.new.held) (g.S.Source.left c.read_options.new.source)) (sym head.ensures.options) r,
-          ));
-      open_yet = head.ensures.open;
-      options = subst AreOfOptions (sym head.ensures.options) c.in_ok-options.ensures.options;
-      within = c.in_ok-options.ensures.within;
-      len = c.in_ok-options.ensures.len;
-      count = c.in_ok-options.ensures.count;
-    }
-
-pub returns-then-is_bar-clause-told : goal.returns-then-is_bar-clause-told
-returns-then-is_bar-clause-told g c =
-    let old = c.loop-is_there.head in
-    let new = c.close.new.self in
-    let line = c.loop-is_there.line.items in
-    let held = bytes_in c.loop-is_there.buffer c.loop-is_there.held in
-    let left = g.S.Source.left c.loop-is_there.source in
-    let same = sym c.as_slice.ensures.value ∙ c.is_bar.ensures.0 c.if-is_bar.true in
-    IfSome_then (g.S.Source.left c.args.source.now) c.loop-is_there.invariant.told
-    (λ l t.
+    IfSome_then (g.S.Source.left c.args.source.now) c.in_ok-options.ensures.told
+    (λ l r.
     let bytes = bytes_in c.args.buffer.now c.args.held.now ++ l in
-    let kept = keeps-same old new t.0 c.close.ensures.text c.close.ensures.lines t.1 in
-    let read = subst (λ (o : Option Item). ReadsHead bytes o t.0 true line held left) (sym c.close.ensures.options) (subst (λ (b : Bool). ReadsHead bytes old.options t.0 b line held left) c.loop-is_there-test.true t.2) in (
-      t.0,
-      kept,
-      subst (λ (b : Bool). FindsHead b new t.0 bytes held left) (sym c.close.ensures.closed) (head-closed new bytes line held t.0 left read same kept),
-    ))
+    c.in-Ok.ensures.told bytes
+    (subst (λ (o : Option Item). ReadsHead bytes o [] c.in_ok-options.is_there c.read_options.new.line.items (bytes_in c.read_options.new.buffer c.read_options.new.held) (g.S.Source.left c.read_options.new.source)) (sym head.ensures.options) r))
 
-pub loop-is_there-preserved : goal.loop-is_there-preserved
-loop-is_there-preserved g c =
-    let old = c.loop-is_there.head in
-    let new = c.add.new.self in
-    let line = c.loop-is_there.line.items in
-    let held = bytes_in c.loop-is_there.buffer c.loop-is_there.held in
-    let left = g.S.Source.left c.loop-is_there.source in
-    let text = c.in_ok-add.ensures.text ∙ ap (λ (w : List ℕ). old.text.items ++ (w ++ 10 ∷ [])) c.as_slice-in-loop-is_there.ensures.value in
-    record {
-      told =
-          IfSome_then (g.S.Source.left c.args.source.now) c.loop-is_there.invariant.told
-          (λ l t.
-          let bytes = bytes_in c.args.buffer.now c.args.held.now ++ l in
-          let read = subst (λ (b : Bool). ReadsHead bytes old.options t.0 b line held left) c.loop-is_there-test.true t.2 in (
-            t.0 ++ line ∷ [],
-            keeps-more old new bytes line held t.0 left read text c.in_ok-add.ensures.lines t.1,
-            subst (λ (o : Option Item). ReadsHead bytes o (t.0 ++ line ∷ []) c.in_ok-is_there.is_there c.read_line.new.line.items (bytes_in c.read_line.new.buffer c.read_line.new.held) (g.S.Source.left c.read_line.new.source)) (sym c.in_ok-add.ensures.options)
-                (head-more bytes line held c.read_line.new.line.items (bytes_in c.read_line.new.buffer c.read_line.new.held) old.options t.0 left (g.S.Source.left c.read_line.new.source) c.in_ok-is_there.is_there read
-                (λ is. (let yes = c.is_bar.ensures.1 (c.as_slice.ensures.value ∙ is) in absurd cc))
-                c.in_ok-is_there.ensures.told),
-          ));
-      open_yet = c.in_ok-add.ensures.open ∙ c.loop-is_there.invariant.open_yet;
-      options = subst AreOfOptions (sym c.in_ok-add.ensures.options) c.loop-is_there.invariant.options;
-      within = c.in_ok-is_there.ensures.within;
-      len = c.in_ok-is_there.ensures.len ∙ c.loop-is_there.invariant.len;
-      count = omega arith;
-    }
-
-pub returns-clause-told : goal.returns-clause-told
-returns-clause-told g c =
-    let head = c.loop-is_there.head in
-    let line = c.loop-is_there.line.items in
-    let held = bytes_in c.loop-is_there.buffer c.loop-is_there.held in
-    let left = g.S.Source.left c.loop-is_there.source in
-    IfSome_then (g.S.Source.left c.args.source.now) c.loop-is_there.invariant.told
-    (λ l t.
-    let bytes = bytes_in c.args.buffer.now c.args.held.now ++ l in
-    let read = subst (λ (b : Bool). ReadsHead bytes head.options t.0 b line held left) c.loop-is_there-test.false t.2 in (
-      t.0,
-      t.1,
-      subst (λ (b : Bool). FindsHead b head t.0 bytes held left) (sym c.loop-is_there.invariant.open_yet) (head-open head bytes line held t.0 left read t.1),
-    ))
+pub returns-in-Ok-clause-options : goal.returns-in-Ok-clause-options
+returns-in-Ok-clause-options g c = subst AreOfOptions (sym (c.in-Ok.ensures.options ∙ c.new-head.ensures.options)) c.in_ok-options.ensures.options
