@@ -127,7 +127,7 @@ struct Hands {
 }
 
 /// Ann may log in, and the board counts what is told and says when to shut down.
-fn hands(alloc: Global, board: &SharedBoard) -> Result<Hands, AllocError> {
+fn new_hands(alloc: Global, board: &SharedBoard) -> Result<Hands, AllocError> {
     Ok(Hands {
         authenticator: Box::new(alloc, OnlyAnn)?,
         data_listener: counting(alloc, board)?,
@@ -216,7 +216,7 @@ impl<'a> Setting<'a> {
 
     /// Its options, and who is asked and told.
     fn made(&self) -> Result<(Options, Hands), Stopped> {
-        let hands = hands(self.alloc, self.board)?;
+        let hands = new_hands(self.alloc, self.board)?;
         Ok((options(self.alloc, self.mode)?, hands))
     }
 
@@ -227,15 +227,10 @@ impl<'a> Setting<'a> {
         Ok((options, hands, storage))
     }
 
-    fn server(&self) -> Result<Server<AnnsFiles>, Stopped> {
+    pub fn serve<R: ServerRuntime>(&self, rt: &R, door: Door<'_>) -> Ended {
         let (options, hands, storage) = self.made_with_files()?;
         let mut server = Server::with_options(self.alloc, options, parts!(hands, storage));
         limit(&mut server, self.most);
-        Ok(server)
-    }
-
-    pub fn serve<R: ServerRuntime>(&self, rt: &R, door: Door<'_>) -> Ended {
-        let server = self.server()?;
         match door {
             Door::At(text) => Ok(server.listen(rt, text.as_bytes())),
             Door::Within(stream) => Ok(server.service(rt, stream)),
