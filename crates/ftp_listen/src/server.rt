@@ -115,10 +115,7 @@ impl<S: Storage + Send + Drop + 'static> Server<S> {
     {
         let at = match listen_address(bind_address, self.options.mode) {
             Ok(at) => at,
-            Err(error) => {
-                drop(self);
-                return Err(error);
-            }
+            Err(error) => return Err(error),
         };
         match self.shared(*rt) {
             Ok(server) => server.listen_there(rt, at),
@@ -164,15 +161,33 @@ impl<S: Storage + Send + Drop + 'static> Server<S> {
     {
         let at = match listen_address(bind_address, self.options.mode) {
             Ok(at) => at,
-            Err(error) => {
-                drop(self);
-                return Err(error);
-            }
+            Err(error) => return Err(error),
         };
-        match self.shared(*rt) {
-            Ok(server) => server.listen_gated(rt, at, gate, spawner, front, indicator),
-            Err(_) => Err(ServerError::OutOfMemory),
-        }
+        let Ok(server) = self.shared(*rt) else {
+            return Err(ServerError::OutOfMemory);
+        };
+        let Server {
+            alloc,
+            options,
+            limits,
+            every,
+            parts,
+            feed,
+            runs_small: _,
+        } = server;
+        let (own, server_parts) = parts.open(gate, limits, feed, false);
+        drop(own);
+        listen_boxed(
+            rt,
+            alloc,
+            options,
+            every,
+            server_parts,
+            at,
+            spawner,
+            front,
+            indicator,
+        )
     }
 
     /// Serves one control connection to its end, in legacy mode whatever mode was built. The indicator is not asked.
@@ -181,10 +196,24 @@ impl<S: Storage + Send + Drop + 'static> Server<S> {
     pub fn service<R: ServerRuntime>(self, rt: &R, stream: TcpStream) -> Result<(), ServerError>
         ensures only { IfErr result (λ e. (e ≡ ServerError.Io) ⊎ (e ≡ ServerError.OutOfMemory)) }
     {
-        match self.shared(*rt) {
-            Ok(server) => server.serve_there(rt, stream),
-            Err(_) => Err(ServerError::OutOfMemory),
-        }
+        let Ok(server) = self.shared(*rt) else {
+            return Err(ServerError::OutOfMemory);
+        };
+        let Server {
+            alloc,
+            options,
+            limits,
+            every,
+            parts,
+            feed,
+            runs_small,
+        } = server;
+        let Ok(gate) = Arc::new(alloc, OpenGate) else {
+            return Err(ServerError::OutOfMemory);
+        };
+        let (own, server_parts) = parts.open(gate, limits, feed, runs_small);
+        drop(own);
+        serve_one(rt, alloc, options, every, server_parts, stream)
     }
 
     // The same server, over a depot of its storage.
@@ -240,10 +269,7 @@ where
     {
         let at = match listen_address(bind_address, self.options.mode) {
             Ok(at) => at,
-            Err(error) => {
-                drop(self);
-                return Err(error);
-            }
+            Err(error) => return Err(error),
         };
         self.listen_there(rt, at)
     }
@@ -252,13 +278,19 @@ where
     fn listen_there<R: ServerRuntime>(self, rt: &R, at: SocketAddr) -> Result<(), ServerError>
         ensures only { IfErr result (λ e. is_of_running e ≡ true) }
     {
-        let alloc = self.alloc;
-        let runs_small = self.runs_small;
+        let Server {
+            alloc,
+            options,
+            limits,
+            every,
+            parts,
+            feed,
+            runs_small,
+        } = self;
         let Ok(gate) = Arc::new(alloc, OpenGate) else {
-            drop(self);
             return Err(ServerError::OutOfMemory);
         };
-        let (options, every, indicator, server_parts) = self.open(gate, runs_small);
+        let (indicator, server_parts) = parts.open(gate, limits, feed, runs_small);
         let mut indicator = indicator;
         listen_at::<R, BoxedServices<D, OpenGate>, _, _, _>(
             rt,
@@ -272,83 +304,43 @@ where
             &mut indicator,
         )
     }
+}
 
-    // Listens at an address, with a gate, a spawner, a front and an indicator of the caller's.
-    fn listen_gated<
-        R: ServerRuntime,
-        G: Gate + Send + Sync + Drop + 'static,
-        P: Spawner,
-        F: Front,
-        I: Indicator,
-    >(
-        self,
-        rt: &R,
-        at: SocketAddr,
-        gate: Arc<G, Global>,
-        spawner: &mut P,
-        front: &mut F,
-        indicator: &mut I,
-    ) -> Result<(), ServerError>
-        ensures io { IsErrOf result ServerError.Io → HasRisen (F.faults front.old) (F.faults front.new) }
-        ensures run { HasServed result (I.asked indicator.old) (I.asked indicator.new) (F.latest front.new) (P.faults spawner.old) (P.faults spawner.new) }
-        ensures only { IfErr result (λ e. is_of_running e ≡ true) }
-    {
-        let alloc = self.alloc;
-        let (options, every, own, server_parts) = self.open(gate, false);
-        drop(own);
-        listen_at::<R, BoxedServices<D, G>, P, F, I>(
-            rt,
-            alloc,
-            options,
-            every,
-            server_parts,
-            at,
-            spawner,
-            front,
-            indicator,
-        )
-    }
-
-    // Serves one control connection to its end.
-    fn serve_there<R: ServerRuntime>(self, rt: &R, stream: TcpStream) -> Result<(), ServerError>
-        ensures only { IfErr result (λ e. (e ≡ ServerError.Io) ⊎ (e ≡ ServerError.OutOfMemory)) }
-    {
-        let alloc = self.alloc;
-        let runs_small = self.runs_small;
-        let Ok(gate) = Arc::new(alloc, OpenGate) else {
-            drop(self);
-            return Err(ServerError::OutOfMemory);
-        };
-        let (options, every, own, server_parts) = self.open(gate, runs_small);
-        drop(own);
-        serve_one(rt, alloc, options, every, server_parts, stream)
-    }
-
-    // Its options, of how many entries its journal's tail is, who asks for a shutdown, and all else, with a gate.
-    fn open<G: Gate + Send + Sync + Drop + 'static>(
-        self,
-        gate: Arc<G, Global>,
-        runs_small: bool,
-    ) -> (
-        Options,
-        Option<u64>,
-        Box<dyn Indicator + Drop>,
-        ServerParts<BoxedServices<D, G>>,
+// Listens at an address, with parts that boxes hold over a storage that transfers share.
+fn listen_boxed<
+    R: ServerRuntime,
+    S: Storage + Send + Drop + 'static,
+    G: Gate + Send + Sync + Drop + 'static,
+    P: Spawner,
+    F: Front,
+    I: Indicator,
+>(
+    rt: &R,
+    alloc: Global,
+    options: Options,
+    every: Option<u64>,
+    server_parts: ServerParts<BoxedServices<SharedDepot<R, S>, G>>,
+    at: SocketAddr,
+    spawner: &mut P,
+    front: &mut F,
+    indicator: &mut I,
+) -> Result<(), ServerError>
+    requires some { every ≢ Some 0 }
+    ensures io { IsErrOf result ServerError.Io → HasRisen (F.faults front.old) (F.faults front.new) }
+    ensures run { HasServed result (I.asked indicator.old) (I.asked indicator.new) (F.latest front.new) (P.faults spawner.old) (P.faults spawner.new) }
+    ensures only { IfErr result (λ e. is_of_running e ≡ true) }
+{
+    listen_at::<R, BoxedServices<SharedDepot<R, S>, G>, P, F, I>(
+        rt,
+        alloc,
+        options,
+        every,
+        server_parts,
+        at,
+        spawner,
+        front,
+        indicator,
     )
-        ensures some { result.1 ≢ Some 0 }
-    {
-        let Server {
-            alloc: _,
-            options,
-            limits,
-            every,
-            parts,
-            feed,
-            runs_small: _,
-        } = self;
-        let (indicator, server_parts) = parts.open(gate, limits, feed, runs_small);
-        (options, every, indicator, server_parts)
-    }
 }
 
 // Listens at an address, until the indicator asks for a shutdown and all transfers are over.
