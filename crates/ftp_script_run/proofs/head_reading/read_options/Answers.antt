@@ -1,4 +1,4 @@
-use Rattle.std.proofs.Common.{ℕ, Bool, List, ◌++◌, Option, subst, sym}
+use Rattle.std.proofs.Common.{ℕ, Bool, List, [], ◌++◌, Option, subst, sym}
 use Rattle.std.specs.Prelude.{IfSome}
 use Rattle.std.proofs.lemmas.Option.{IfSome_then}
 use Rattle.ftp_control.specs.Lines.{bytes_in}
