@@ -6,7 +6,6 @@ ghost use Rattle.ftp_control.specs.Lines.{bytes_in, IsWithin};
 ghost use Rattle.std.specs.List.{flat_map, list_all};
 ghost use Rattle.ftp_options.specs.declared.options.Options.{Options};
 ghost use Rattle.ftp_events.specs.declared.entry.Entry.{Entry};
-ghost use Rattle.ftp_hub.specs.Refused.{HasCause};
 ghost use Rattle.ftp_hub.specs.Runs.{is_linked};
 ghost use Rattle.ftp_hub.specs.State.{IsForm};
 ghost use Rattle.ftp_hub.specs.Stands.{options_of};
@@ -18,7 +17,7 @@ ghost use Rattle.ftp_text.specs.declared.setup.Item.{Item};
 ghost use Rattle.ftp_script_run.specs.Script.{has_link};
 ghost use Rattle.ftp_script_run.specs.declared.text_script.ScriptError.{ScriptError};
 ghost use Rattle.ftp_script_run.specs.Resuming.{Awaits, Begins, IsRefusedSo, Resuming, ResumeOutcome, GivesState};
-ghost use Rattle.ftp_script_run.specs.Resumed.{AreOfOptions, AreOptionsOf, Finds, IsBadHead, KeepsLines, link_kept, links_named, may_go_on};
+ghost use Rattle.ftp_script_run.specs.Resumed.{AreOfOptions, AreOptionsOf, IsBadHead, KeepsLines, link_kept, links_named, may_go_on};
 ghost use Rattle.ftp_script_run.specs.Legal.{start_of};
 ghost use Rattle.ftp_script_run.specs.Runs.{Keeps, outside};
 ghost use Rattle.ftp_script_run.specs.SetUp.{is_event};
@@ -48,56 +47,23 @@ pub fn resume_lines<S: Source, K: Sink>(
     ensures outcome { IfSome (S.left source.old) (λ bytes. ResumeOutcome result bytes (S.left source.new) (K.written sink.old) (K.written sink.new)) }
     ensures faults { TellsFaults (Some result) (S.faults source.old) (S.faults source.new) (K.faults sink.old) (K.faults sink.new) }
 {
-    let mut run = Run::new(alloc);
-    let status = resume(alloc, &mut run, buffer, source, sink);
-    drop(run);
-    status
-}
-
-// Has the run go on from the state that is read, by the script behind it.
-fn resume<S: Source, K: Sink>(
-    alloc: Global,
-    run: &mut Run,
-    buffer: &mut [u8],
-    source: &mut S,
-    sink: &mut K,
-) -> Status
-    requires new { Keeps None run.old [] [] }
-    requires len { length buffer.old ≡ 65537 }
-    ensures outcome { IfSome (S.left source.old) (λ bytes. ResumeOutcome result bytes (S.left source.new) (K.written sink.old) (K.written sink.new)) }
-    ensures faults { TellsFaults (Some result) (S.faults source.old) (S.faults source.new) (K.faults sink.old) (K.faults sink.new) }
-{
     let mut held = Span { start: 0, end: 0 };
-    match begin(alloc, run, buffer, &mut held, source) {
-        Ok(mut resumed) => {
-            let mut reader = ScriptReader::behind(alloc, held);
-            let status = run_behind(alloc, &mut resumed, &mut reader, run, buffer, source, sink);
-            drop(reader);
-            drop(resumed);
-            status
-        }
-        Err(error) => ended(run, error, sink),
-    }
-}
-
-// Runs the lines behind a state, up to the end.
-fn run_behind<S: Source, K: Sink>(
-    alloc: Global,
-    resumed: &mut Resumed,
-    reader: &mut ScriptReader,
-    run: &mut Run,
-    buffer: &mut [u8],
-    source: &mut S,
-    sink: &mut K,
-) -> Status
-    requires lawful { IsLawful reader.old buffer.old }
-    requires resuming { (all : Option (List ℕ)) × Resuming all resumed.old reader.old run.old buffer.old (S.left source.old) (K.written sink.old) (K.written sink.old) }
-    ensures outcome { (all : Option (List ℕ)) → Resuming all resumed.old reader.old run.old buffer.old (S.left source.old) (K.written sink.old) (K.written sink.old) →
-        IfSome all (λ bytes. ResumeOutcome result bytes (S.left source.new) (K.written sink.old) (K.written sink.new)) }
-    ensures faults { TellsFaults (Some result) (S.faults source.old) (S.faults source.new) (K.faults sink.old) (K.faults sink.new) }
-{
+    let mut run = Run::new(alloc);
+    let mut resumed = match begin(alloc, &mut run, buffer, &mut held, source) {
+        Ok(resumed) => resumed,
+        Err(error) => return ended(&mut run, error, sink),
+    };
+    let mut reader = ScriptReader::behind(alloc, held);
     loop {
-        if let Some(status) = go_on(alloc, resumed, reader, run, buffer, source, sink) {
+        if let Some(status) = go_on(
+            alloc,
+            &mut resumed,
+            &mut reader,
+            &mut run,
+            buffer,
+            source,
+            sink,
+        ) {
             return status;
         }
     }
@@ -136,56 +102,20 @@ fn begin<S: Source>(
     ensures within { IsWithin buffer.new held.new }
     ensures len { length buffer.new ≡ length buffer.old }
 {
-    match Head::read(alloc, buffer, held, source) {
-        Ok(head) => begin_behind(alloc, run, head),
-        Err(error) => Err(error),
-    }
-}
-
-// Has the run go on from the state of these lines.
-fn begin_behind(alloc: Global, run: &mut Run, head: Head) -> Result<Resumed, ScriptError>
-    requires new { Keeps None run.old [] [] }
-    requires options { AreOfOptions head.options }
-    ensures begun { IfOk result (λ resumed. (front held : List ℕ) (all left : Option (List ℕ)) → IfSome all (λ bytes. Finds head (front ++ bytes) held left) → Begins front all resumed run.new held left) }
-    ensures bad { (k : ℕ) → IsErrOf result (ScriptError.BadLine k) → (bytes held : List ℕ) (left : Option (List ℕ)) → Finds head bytes held left → IsBadHead k bytes }
-    ensures no_fault { IfErr result (λ e. e ≢ ScriptError.Fault) }
-{
-    match state_of(alloc, &head) {
-        Ok(state) => {
-            let before = head.last();
-            let Head {
-                options,
-                text: _,
-                lines: _,
-                is_closed: _,
-            } = head;
-            begin_at(alloc, run, before, options, state)
-        }
-        Err(error) => {
-            drop(head);
-            Err(error)
-        }
-    }
-}
-
-// Has the run go on from this state, which stands behind so many lines, under these options.
-fn begin_at(
-    alloc: Global,
-    run: &mut Run,
-    before: u64,
-    options: Option<Item>,
-    state: HubState,
-) -> Result<Resumed, ScriptError>
-    requires new { Keeps None run.old [] [] }
-    requires options { AreOfOptions options }
-    requires form { IsForm state }
-    ensures begun { IfOk result (λ resumed. (resumed.before ≡ before) × Awaits resumed state [] ×
-        ((o : Options) × Keeps (Some (o, state)) run.new [] [] × AreOptionsOf options o × ((e : StateError) → HasCause o state e → ⊥))) }
-    ensures bad { (k : ℕ) → IsErrOf result (ScriptError.BadLine k) → (k ≡ before) × ((o : Options) × (e : StateError) × AreOptionsOf options o × HasCause o state e) }
-    ensures no_fault { IfErr result (λ e. e ≢ ScriptError.Fault) }
-{
-    set_options(run, options)?;
+    let head = Head::read(alloc, buffer, held, source)?;
+    let state = match state_of(alloc, &head) {
+        Ok(state) => state,
+        Err(error) => return Err(error),
+    };
+    let before = head.last();
     let links = links_of(alloc, &state)?;
+    let Head {
+        options,
+        text: _,
+        lines: _,
+        is_closed: _,
+    } = head;
+    set_options(run, options)?;
     match run.go_on_from(state) {
         Ok(()) => Ok(Resumed { before, links }),
         Err(error) => Err(refused_at(before, error)),

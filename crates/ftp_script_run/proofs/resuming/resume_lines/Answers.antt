@@ -4,7 +4,7 @@ use Rattle.std.proofs.lemmas.Option.{same_Some}
 use Rattle.ftp_control.specs.Lines.{bytes_in}
 use Rattle.ftp_script_run.specs.declared.status.Status.TheVariants as status
 use Rattle.ftp_script_run.proofs.GoOnLemmas.{go-start, refused-outcome}
-use Rattle.ftp_script_run.proofs.resuming.resume.Goals as goal
+use Rattle.ftp_script_run.proofs.resuming.resume_lines.Goals as goal
 
 -- nothing more is run
 pub returns-in-Err-clause-outcome : goal.returns-in-Err-clause-outcome
@@ -22,22 +22,17 @@ returns-in-Err-clause-faults g c = record {
   sink_count = c.ended.ensures.sink_count;
 }
 
-pub run_behind-status-requires-clause-lawful : goal.run_behind-status-requires-clause-lawful
-run_behind-status-requires-clause-lawful g c = c.behind-reader.ensures.lawful c.begin.new.buffer (omega (arith, c.begin.ensures.len)) c.begin.ensures.within
-
-pub run_behind-status-requires-clause-resuming : goal.run_behind-status-requires-clause-resuming
-run_behind-status-requires-clause-resuming g c = (
-  g.S.Source.left c.args.source.now,
-  go-start (g.S.Source.left c.args.source.now) (g.S.Source.left c.begin.new.source) (g.K.Sink.written c.args.sink.now) c.in-Ok.resumed c.behind-reader.result c.begin.new.run c.begin.new.buffer (bytes_in c.begin.new.buffer c.begin.new.held)
+pub loop-status-init : goal.loop-status-init
+loop-status-init g c = record {
+  lawful = c.behind-reader.ensures.lawful c.begin.new.buffer (omega (arith, c.begin.ensures.len)) c.begin.ensures.within;
+  resuming =
+      go-start (g.S.Source.left c.args.source.now) (g.S.Source.left c.begin.new.source) (g.K.Sink.written c.args.sink.now) c.in-Ok.resumed c.behind-reader.result c.begin.new.run c.begin.new.buffer (bytes_in c.begin.new.buffer c.begin.new.held)
       c.in-Ok.ensures.begun
       (c.behind-reader.ensures.start c.begin.new.buffer)
-      c.behind-reader.ensures.none,
-)
+      c.behind-reader.ensures.none;
+  source_count = omega arith;
+  sink_count = omega arith;
+}
 
-pub returns-in-Ok-clause-outcome : goal.returns-in-Ok-clause-outcome
-returns-in-Ok-clause-outcome g c =
-    c.run_behind-status.ensures.outcome (g.S.Source.left c.args.source.now)
-    (go-start (g.S.Source.left c.args.source.now) (g.S.Source.left c.begin.new.source) (g.K.Sink.written c.args.sink.now) c.in-Ok.resumed c.behind-reader.result c.begin.new.run c.begin.new.buffer (bytes_in c.begin.new.buffer c.begin.new.held)
-    c.in-Ok.ensures.begun
-    (c.behind-reader.ensures.start c.begin.new.buffer)
-    c.behind-reader.ensures.none)
+pub returns-in-Some-clause-outcome : goal.returns-in-Some-clause-outcome
+returns-in-Some-clause-outcome g c = c.in-Some.ensures.ended (g.S.Source.left c.args.source.now) (g.K.Sink.written c.args.sink.now) c.loop-status.invariant.resuming

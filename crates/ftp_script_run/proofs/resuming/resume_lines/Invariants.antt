@@ -1,14 +1,13 @@
-use Rattle.std.proofs.Common.{ℕ, ◌≤◌, ◌-◌, List, Option}
+use Rattle.std.proofs.Common.{◌≤◌, ◌-◌}
 use Rattle.ftp_script_run.specs.ScriptReader.{IsLawful}
 use Rattle.ftp_script_run.specs.Resuming.{Resuming}
-use Rattle.ftp_script_run.proofs.resuming.run_behind.Given as goal
+use Rattle.ftp_script_run.proofs.resuming.resume_lines.Given as goal
 
 -- the lines so far were read, and their log was written
 abbrev pub invariant-loop-status : goal.invariant-loop-status
 invariant-loop-status g l = record {
   lawful : IsLawful l.reader l.buffer;
-  resuming : (all : Option (List ℕ)) → Resuming all l.fn.resumed l.fn.reader l.fn.run l.fn.buffer (g.S.Source.left l.fn.source) (g.K.Sink.written l.fn.sink) (g.K.Sink.written l.fn.sink) →
-      Resuming all l.resumed l.reader l.run l.buffer (g.S.Source.left l.source) (g.K.Sink.written l.fn.sink) (g.K.Sink.written l.sink);
+  resuming : Resuming (g.S.Source.left l.fn.source) l.resumed l.reader l.run l.buffer (g.S.Source.left l.source) (g.K.Sink.written l.fn.sink) (g.K.Sink.written l.sink);
   source_count : g.S.Source.faults l.fn.source ≤ g.S.Source.faults l.source;
   sink_count : g.K.Sink.faults l.fn.sink ≤ g.K.Sink.faults l.sink;
 }
