@@ -35,41 +35,29 @@ fn an_address_in_use_is_a_fault(rt: HostRuntime) -> Result<(), Fail> {
     Ok(())
 }
 
-const NO_ADDRESSES: [&str; 11] = [
-    "nonsense",
-    "",
-    "127.0.0.1",
-    "127.0.0.1:",
-    "127.0.0.1:65536",
-    "127.0.0.1:021",
-    "127.0.0.01:21",
-    "::1:21",
-    "[::1]",
-    "[127.0.0.1]:21",
-    "localhost:21",
-];
-
-/// The first of them at which a server ends otherwise than for want of an address.
-fn first_taken<R: ServerRuntime>(
-    rt: &R,
-    legacy: &Setting<'_>,
-) -> Result<Option<&'static str>, Stopped> {
-    for text in &NO_ADDRESSES {
-        let ended = legacy.serve(rt, Door::At(*text))?;
-        if !matches!(ended, Err(ServerError::Address)) {
-            return Ok(Some(*text));
-        }
-    }
-    Ok(None)
-}
-
 #[test]
 fn what_is_no_address_is_told(rt: HostRuntime) -> Result<(), Fail> {
     let types: Option<(TcpListener, TcpStream)> = None;
     drop(types);
+    let texts = [
+        "nonsense",
+        "",
+        "127.0.0.1",
+        "127.0.0.1:",
+        "127.0.0.1:65536",
+        "127.0.0.1:021",
+        "127.0.0.01:21",
+        "::1:21",
+        "[::1]",
+        "[127.0.0.1]:21",
+        "localhost:21",
+    ];
     let board = new_board(rt.alloc())?;
-    let legacy = Setting::new(rt.alloc(), &board, ListenerMode::Legacy);
-    assert_eq!(rt; first_taken(&rt, &legacy)?, None);
+    for text in texts {
+        let legacy = Setting::new(rt.alloc(), &board, ListenerMode::Legacy);
+        let ended = legacy.serve(&rt, Door::At(text))?;
+        assert_eq!(rt; ended, Err(ServerError::Address), "at {text}");
+    }
     let pooled = Setting::new(rt.alloc(), &board, ListenerMode::Pooled);
     let ended = pooled.serve_prebound(&rt, "[::1]:2121")?;
     assert_eq!(rt; ended, Err(ServerError::Ipv6OutsideLegacy));

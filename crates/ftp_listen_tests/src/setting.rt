@@ -59,92 +59,47 @@ fn options(alloc: Global, mode: ListenerMode) -> Result<Options, Stopped> {
     }
 }
 
-/// Puts a file there.
-fn put(
-    files: &mut MemoryStorage,
-    alloc: Global,
-    path: &[u8],
-    bytes: Vec<u8>,
-) -> Result<(), Stopped> {
-    let path = Bytes::from_slice(alloc, path)?;
-    match files.put_file(path, bytes) {
-        Ok(_) => Ok(()),
-        Err(_) => Err(Stopped::NotSet),
-    }
-}
-
-/// Puts three files there.
-fn fill(files: &mut MemoryStorage, alloc: Global) -> Result<(), Stopped> {
-    put(files, alloc, b"/a.txt", FILE.to_vec(alloc)?)?;
-    put(files, alloc, b"/b.txt", OTHER.to_vec(alloc)?)?;
-    put(files, alloc, b"/big", Vec::from_elem(alloc, b'x', BIG)?)
-}
-
 /// A storage with three files.
 fn storage(alloc: Global) -> Result<AnnsFiles, Stopped> {
     let mut files = MemoryStorage::new(alloc, 1 << 20, Vec::new(alloc));
-    fill(&mut files, alloc)?;
+    let big = Vec::from_elem(alloc, b'x', BIG)?;
+    for (path, bytes) in [
+        (b"/a.txt".as_slice(), FILE.to_vec(alloc)?),
+        (b"/b.txt".as_slice(), OTHER.to_vec(alloc)?),
+        (b"/big".as_slice(), big),
+    ] {
+        let path = Bytes::from_slice(alloc, path)?;
+        if files.put_file(path, bytes).is_err() {
+            return Err(Stopped::NotSet);
+        }
+    }
     Ok(AnnsFiles::new(files))
 }
 
-/// A depot of it, which counts the storages that it gives.
-fn depot<R: ServerRuntime>(
-    rt: &R,
-    alloc: Global,
-    board: &SharedBoard,
-) -> Result<CountedDepot<R>, Stopped> {
-    let board = Arc::try_clone(board)?;
-    Ok(CountedDepot {
-        files: SharedDepot::new(*rt, alloc, storage(alloc)?)?,
-        board,
-    })
-}
-
-/// Counts on the board what it is told.
-fn counting(alloc: Global, board: &SharedBoard) -> Result<Box<Counting>, AllocError> {
-    let board = Arc::try_clone(board)?;
-    Ok(Box::new(alloc, Counting { board })?)
-}
-
-/// Asks for this shutdown from when the board says so.
-fn asks(alloc: Global, board: &SharedBoard, shutdown: Shutdown) -> Result<Box<Asks>, AllocError> {
-    let board = Arc::try_clone(board)?;
-    let asks = Asks {
-        board,
-        shutdown,
-        asked: None,
-    };
-    Ok(Box::new(alloc, asks)?)
-}
-
-/// Who is asked and told by a server.
-#[derive(Drop)]
-struct Hands {
-    authenticator: Box<OnlyAnn>,
-    data_listener: Box<Counting>,
-    presence_listener: Box<Counting>,
-    indicator: Box<Asks>,
-}
-
-/// Ann may log in, and the board counts what is told and says when to shut down.
-fn new_hands(alloc: Global, board: &SharedBoard) -> Result<Hands, AllocError> {
-    Ok(Hands {
-        authenticator: Box::new(alloc, OnlyAnn)?,
-        data_listener: counting(alloc, board)?,
-        presence_listener: counting(alloc, board)?,
-        indicator: asks(alloc, board, Shutdown::new())?,
-    })
-}
-
-/// The parts of a server: these hands, and these files.
+/// Ann may log in, the board counts what is told and says when to shut down, and there are three files of hers.
 macro_rules! parts {
-    ($hands:expr, $storage:expr) => {{
-        let Hands {
-            authenticator,
-            data_listener,
-            presence_listener,
-            indicator,
-        } = $hands;
+    ($alloc:expr, $board:expr) => {
+        parts!($alloc, $board, storage($alloc)?)
+    };
+    ($alloc:expr, $board:expr, $storage:expr) => {{
+        let alloc = $alloc;
+        let asks = Asks {
+            board: Arc::try_clone($board)?,
+            shutdown: Shutdown::new(),
+            asked: None,
+        };
+        let (Ok(authenticator), Ok(data_listener), Ok(presence_listener), Ok(indicator)) = (
+            Box::new(alloc, OnlyAnn),
+            Box::new(alloc, Counting {
+                board: Arc::try_clone($board)?,
+            }),
+            Box::new(alloc, Counting {
+                board: Arc::try_clone($board)?,
+            }),
+            Box::new(alloc, asks),
+        ) else {
+            return Err(Stopped::OutOfMemory);
+        };
         Parts {
             authenticator,
             data_listener,
@@ -153,33 +108,6 @@ macro_rules! parts {
             storage: $storage,
         }
     }};
-}
-
-/// The gate, an indicator that looks at the moments that it is given, and a front that tells them.
-fn watch<R: ServerRuntime, G: Gate + Drop>(
-    rt: &R,
-    setting: &Setting<'_>,
-    gate: G,
-    shutdown: Shutdown,
-) -> Result<(Arc<G, Global>, Box<Asks>, Watched<SystemFront<R>>), AllocError> {
-    let alloc = setting.alloc;
-    let gate = Arc::new(alloc, gate)?;
-    let asks = asks(alloc, setting.board, shutdown)?;
-    let board = Arc::try_clone(setting.board)?;
-    let front = Watched {
-        front: SystemFront::new(*rt, alloc),
-        board,
-        latest: 0,
-    };
-    Ok((gate, asks, front))
-}
-
-/// Sets how many sessions of one client there may be at most, and then how often a checkpoint is made.
-fn limit(server: &mut Server<AnnsFiles>, most: Option<u64>) {
-    if let Some(most) = most {
-        server.most_sessions_of_one(most);
-        server.checkpoint_every(3);
-    }
 }
 
 /// How a server ended, where it was set up.
@@ -214,23 +142,14 @@ impl<'a> Setting<'a> {
         }
     }
 
-    /// Its options, and who is asked and told.
-    fn made(&self) -> Result<(Options, Hands), Stopped> {
-        let hands = new_hands(self.alloc, self.board)?;
-        Ok((options(self.alloc, self.mode)?, hands))
-    }
-
-    /// The same, and a storage with three files.
-    fn made_with_files(&self) -> Result<(Options, Hands, AnnsFiles), Stopped> {
-        let storage = storage(self.alloc)?;
-        let (options, hands) = self.made()?;
-        Ok((options, hands, storage))
-    }
-
     pub fn serve<R: ServerRuntime>(&self, rt: &R, door: Door<'_>) -> Ended {
-        let (options, hands, storage) = self.made_with_files()?;
-        let mut server = Server::with_options(self.alloc, options, parts!(hands, storage));
-        limit(&mut server, self.most);
+        let alloc = self.alloc;
+        let options = options(alloc, self.mode)?;
+        let mut server = Server::with_options(alloc, options, parts!(alloc, self.board));
+        if let Some(most) = self.most {
+            server.most_sessions_of_one(most);
+            server.checkpoint_every(3);
+        }
         match door {
             Door::At(text) => Ok(server.listen(rt, text.as_bytes())),
             Door::Within(stream) => Ok(server.service(rt, stream)),
@@ -239,24 +158,28 @@ impl<'a> Setting<'a> {
 
     /// Serves as a server whose sessions share the ports.
     pub fn serve_prebound<R: ServerRuntime>(&self, rt: &R, text: &str) -> Ended {
-        let (options, hands, storage) = self.made_with_files()?;
+        let alloc = self.alloc;
+        let options = options(alloc, self.mode)?;
         let (is_pooled, is_proxy) = (options.mode.is_pooled(), options.mode.is_proxy());
-        let server = PreboundListener::with_options(self.alloc, options, parts!(hands, storage));
+        let server = PreboundListener::with_options(alloc, options, parts!(alloc, self.board));
         if is_pooled {
             Ok(server.listen_pooled(rt, text.as_bytes()))
         } else if is_proxy {
             Ok(server.listen_proxy_protocol(rt, text.as_bytes()))
         } else {
-            drop(server);
             Err(Stopped::NotSet)
         }
     }
 
     /// Serves over a depot that counts the storages that it gives, with a checkpoint after each entry.
     fn serve_over<R: ServerRuntime>(&self, rt: &R, text: &str) -> Ended {
-        let depot = depot(rt, self.alloc, self.board)?;
-        let (options, hands) = self.made()?;
-        let mut server = Server::over(self.alloc, options, parts!(hands, depot));
+        let alloc = self.alloc;
+        let depot = CountedDepot {
+            files: SharedDepot::new(*rt, alloc, storage(alloc)?)?,
+            board: Arc::try_clone(self.board)?,
+        };
+        let options = options(alloc, self.mode)?;
+        let mut server = Server::over(alloc, options, parts!(alloc, self.board, depot));
         server.checkpoint_every(1);
         Ok(server.listen_over(rt, text.as_bytes()))
     }
@@ -269,16 +192,29 @@ impl<'a> Setting<'a> {
         gate: G,
         shutdown: Shutdown,
     ) -> Ended {
-        let (gate, asks, front) = watch(rt, self, gate, shutdown)?;
-        let (options, hands, storage) = self.made_with_files()?;
-        let mut front = front;
+        let alloc = self.alloc;
+        let options = options(alloc, self.mode)?;
+        let server = Server::with_options(alloc, options, parts!(alloc, self.board));
+        let mut front = Watched {
+            front: SystemFront::new(*rt, alloc),
+            board: Arc::try_clone(self.board)?,
+            latest: 0,
+        };
+        let asks = Asks {
+            board: Arc::try_clone(self.board)?,
+            shutdown,
+            asked: None,
+        };
+        let (Ok(gate), Ok(asks)) = (Arc::new(alloc, gate), Box::new(alloc, asks)) else {
+            return Err(Stopped::OutOfMemory);
+        };
         let mut indicator: Box<dyn Indicator + Drop> = asks;
-        let server = Server::with_options(self.alloc, options, parts!(hands, storage));
+        let mut threads = SystemThreads::new();
         Ok(server.listen_with(
             rt,
             text.as_bytes(),
             gate,
-            &mut SystemThreads::new(),
+            &mut threads,
             &mut front,
             &mut indicator,
         ))

@@ -74,11 +74,6 @@ struct Guests {
     two: Option<Client>,
 }
 
-/// Asks for the passive port.
-fn pasv(alloc: Global, place: Place, client: &mut Client) -> Result<(), Met> {
-    client.ask("PASV\r\n", place.entering(alloc)?.as_str())
-}
-
 /// Asks for the passive port, connects, sends what a proxy sends ahead, and asks this.
 fn begin<R: Net<Stream = TcpStream> + Clock>(
     rt: &R,
@@ -89,62 +84,9 @@ fn begin<R: Net<Stream = TcpStream> + Clock>(
     line: &str,
     reply: &str,
 ) -> Result<(), Met> {
-    pasv(alloc, place, client)?;
+    client.ask("PASV\r\n", place.entering(alloc)?.as_str())?;
     client.connect(rt, place.passive(), header)?;
     client.ask(line, reply)
-}
-
-/// Downloads by this line, and these bytes are sent.
-fn get<R: Net<Stream = TcpStream> + Clock>(
-    rt: &R,
-    alloc: Global,
-    place: Place,
-    client: &mut Client,
-    header: &[u8],
-    line: &str,
-    bytes: &[u8],
-) -> Result<(), Met> {
-    let reply = "150 Sending data\r\n";
-    begin(rt, alloc, place, client, header, line, reply)?;
-    client.fetch(bytes)?;
-    client.hear("226 Successfully sent\r\n")
-}
-
-/// Leaves as is due.
-fn quit(client: &mut Client) -> Result<(), Met> {
-    client.ask("QUIT\r\n", "221 Bye!\r\n")?;
-    client.hear("")
-}
-
-/// A client that is there takes a step.
-fn go_on<R: Net<Stream = TcpStream> + Clock>(
-    rt: &R,
-    alloc: Global,
-    place: Place,
-    client: &mut Client,
-    step: Step,
-) -> Result<(), Met> {
-    match step {
-        Step::LogIn => client.log_in(),
-        Step::Ask(line, reply) => client.ask(line, reply),
-        Step::AskSlow(line, reply, least) => client.ask_slow(rt, line, reply, least),
-        Step::AskInVain(line) => client.ask_in_vain(line),
-        Step::Pasv => pasv(alloc, place, client),
-        Step::Hear(line) => client.hear(line),
-        Step::Connect(header) => client.connect(rt, place.passive(), header),
-        Step::Begin(header, line, reply) => begin(rt, alloc, place, client, header, line, reply),
-        Step::Get(header, line, bytes) => get(rt, alloc, place, client, header, line, bytes),
-        Step::Quit => quit(client),
-        Step::Send(bytes) => client.send(bytes),
-        Step::Fetch(bytes) => client.fetch(bytes),
-        Step::Come(..) | Step::Enter(_) | Step::Leave => Ok(()),
-    }
-}
-
-/// A client comes in the place of the one that was there.
-fn seat(guest: &mut Option<Client>, client: Result<Client, Met>) -> Result<(), Met> {
-    drop(guest.replace(client?));
-    Ok(())
 }
 
 /// A client takes a step.
@@ -157,17 +99,51 @@ fn take<R: Net<Stream = TcpStream> + Clock>(
 ) -> Result<(), Met> {
     match step {
         Step::Come(header, first) => {
-            seat(guest, Client::told(rt, alloc, place.door(), header, first))
+            *guest = Some(Client::told(rt, alloc, place.door(), header, first)?);
+            return Ok(());
         }
-        Step::Enter(header) => seat(guest, Client::entered(rt, alloc, place.door(), header)),
+        Step::Enter(header) => {
+            *guest = Some(Client::entered(rt, alloc, place.door(), header)?);
+            return Ok(());
+        }
         Step::Leave => {
-            drop(guest.take());
-            Ok(())
+            *guest = None;
+            return Ok(());
         }
-        _ => match guest {
-            Some(client) => go_on(rt, alloc, place, client, step),
-            None => Err(Met::Nobody),
-        },
+        _ => {}
+    }
+    let Some(client) = guest else {
+        return Err(Met::Nobody);
+    };
+    match step {
+        Step::LogIn => client.log_in(),
+        Step::Ask(line, reply) => client.ask(line, reply),
+        Step::AskSlow(line, reply, least) => client.ask_slow(rt, line, reply, least),
+        Step::AskInVain(line) => client.ask_in_vain(line),
+        Step::Pasv => client.ask("PASV\r\n", place.entering(alloc)?.as_str()),
+        Step::Hear(line) => client.hear(line),
+        Step::Connect(header) => client.connect(rt, place.passive(), header),
+        Step::Begin(header, line, reply) => begin(rt, alloc, place, client, header, line, reply),
+        Step::Get(header, line, bytes) => {
+            begin(
+                rt,
+                alloc,
+                place,
+                client,
+                header,
+                line,
+                "150 Sending data\r\n",
+            )?;
+            client.fetch(bytes)?;
+            client.hear("226 Successfully sent\r\n")
+        }
+        Step::Quit => {
+            client.ask("QUIT\r\n", "221 Bye!\r\n")?;
+            client.hear("")
+        }
+        Step::Send(bytes) => client.send(bytes),
+        Step::Fetch(bytes) => client.fetch(bytes),
+        Step::Come(..) | Step::Enter(_) | Step::Leave => Ok(()),
     }
 }
 
