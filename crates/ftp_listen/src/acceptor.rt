@@ -12,9 +12,10 @@ use mio::Token;
 use mio::net::TcpStream;
 use std::alloc::Global;
 use std::collections::BTreeMap;
-use std::net;
 use std::net::SocketAddr;
 use std::sync::Arc;
+use std::time::Duration;
+use std::{net, thread};
 
 /// How many connections are accepted at one socket before the next socket is looked at.
 const ROUND: u32 = 256;
@@ -47,8 +48,6 @@ pub(crate) struct Acceptor<R: ServerRuntime, H: JournalHub + Drop, S: Services> 
     scavenged: u64,
     // How many threads were wanted and are not started yet.
     owed: u64,
-    // All sessions were ended.
-    is_stopped: bool,
 }
 
 impl<R: ServerRuntime, H: JournalHub + Drop, S: Services> Acceptor<R, H, S> {
@@ -71,12 +70,18 @@ impl<R: ServerRuntime, H: JournalHub + Drop, S: Services> Acceptor<R, H, S> {
             swept: at,
             scavenged: at,
             owed: 0,
-            is_stopped: false,
         }
     }
 
-    // Accepts the connections that the last wait reported.
-    fn accept_ready(&mut self, poll: &AcceptPoll, sockets: &ListeningSockets, at: u64) {
+    /// Waits for a connection or for a wish for one more thread, this many milliseconds at most.
+    pub(crate) fn wait(&self, poll: &mut AcceptPoll, millis: u64) {
+        if poll.wait(millis).is_err() {
+            thread::sleep(&self.rt, Duration::from_millis(millis));
+        }
+    }
+
+    /// Accepts the connections that the last wait reported.
+    pub(crate) fn accept_ready(&mut self, poll: &AcceptPoll, sockets: &ListeningSockets, at: u64) {
         for event in poll.events().iter() {
             let token = event.token();
             match sockets.session_at(token) {
@@ -135,8 +140,8 @@ impl<R: ServerRuntime, H: JournalHub + Drop, S: Services> Acceptor<R, H, S> {
         }
     }
 
-    // Does what is due from time to time.
-    fn run_timers(&mut self, at: u64) {
+    /// Does what is due from time to time.
+    pub(crate) fn run_timers(&mut self, at: u64) {
         if at.saturating_sub(self.closed) >= LISTENERS {
             self.closed = at;
             self.desk.close_listeners(at);
@@ -156,28 +161,18 @@ impl<R: ServerRuntime, H: JournalHub + Drop, S: Services> Acceptor<R, H, S> {
         self.state.begin_stop(&self.rt);
     }
 
-    /// Closes the control port, unless it is a proxy's, which passes data connections on to it too.
-    pub(crate) fn close_control(&self, sockets: &mut ListeningSockets) {
-        if !self.is_behind_proxy {
-            sockets.close_control();
-        }
-    }
-
-    /// Ends all sessions where it is late or each has ended by itself, and says whether no job runs and no session is live then.
-    pub(crate) fn has_ended(&mut self, is_late: bool, at: u64) -> bool {
-        if !self.is_stopped && (is_late || self.is_left()) {
-            self.is_stopped = self.desk.stop(at);
-        }
-        self.is_stopped && self.is_drained()
-    }
-
-    // Says whether no job runs, no session is live, and each was told all that it is told.
-    fn is_left(&self) -> bool {
+    /// Says whether no job runs, no session is live, and each was told all that it is told.
+    pub(crate) fn is_left(&self) -> bool {
         self.is_drained() && self.state.is_left(&self.rt)
     }
 
-    // Says whether no job runs and no session is live.
-    fn is_drained(&self) -> bool {
+    /// Ends all sessions, and says whether that was taken.
+    pub(crate) fn stop(&mut self, at: u64) -> bool {
+        self.desk.stop(at)
+    }
+
+    /// Says whether no job runs and no session is live.
+    pub(crate) fn is_drained(&self) -> bool {
         self.state.drained(&self.rt)
     }
 
@@ -197,19 +192,10 @@ where
     <S::Depot as Depot>::Store: Send + 'static,
     <S::Depot as Depot>::Words: Send + 'static,
 {
-    /// Accepts the connections that the last wait reported, starts the threads that are wanted, and does what is due. A thread
-    /// that is not started is asked for again later.
-    pub(crate) fn take_turn<P: Spawner>(
-        &mut self,
-        poll: &AcceptPoll,
-        sockets: &ListeningSockets,
-        spawner: &mut P,
-        at: u64,
-    )
+    /// Starts the threads that are wanted. One that is not started is asked for again later.
+    pub(crate) fn spawn_wanted<P: Spawner>(&mut self, spawner: &mut P)
         ensures count { P.faults spawner.old ≤ P.faults spawner.new }
     {
-        self.accept_ready(poll, sockets, at);
         self.owed = spawn_wanted::<R, H, S, P>(&self.rt, &self.state, spawner, self.owed);
-        self.run_timers(at);
     }
 }

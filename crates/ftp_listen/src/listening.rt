@@ -6,12 +6,12 @@ use mio::net::{TcpListener, TcpStream};
 use mio::unix::SourceFd;
 use mio::{Events, Interest, Poll, Token, Waker};
 use std::alloc::Global;
+use std::io;
 use std::io::ErrorKind;
 use std::net::{Net, SocketAddr};
 use std::os::fd::AsRawFd;
 use std::sync::Arc;
-use std::time::{Clock, Duration};
-use std::{io, thread};
+use std::time::Duration;
 
 /// How many sockets one wait can report.
 const CAPACITY: usize = 256;
@@ -93,12 +93,10 @@ impl AcceptPoll {
         Ok((AcceptPoll { poll, events }, acceptor))
     }
 
-    /// Waits so many milliseconds at most, also where the poll fails: nothing is told then.
-    pub(crate) fn wait<C: Clock>(&mut self, clock: &C, millis: u64) {
-        let most = Duration::from_millis(millis);
-        if self.poll.poll(&mut self.events, Some(most)).is_err() {
-            thread::sleep(clock, most);
-        }
+    /// Waits so many milliseconds at most. After an error nothing is told.
+    pub(crate) fn wait(&mut self, millis: u64) -> io::Result<()> {
+        self.poll
+            .poll(&mut self.events, Some(Duration::from_millis(millis)))
     }
 
     /// What the last wait told of.

@@ -1,8 +1,7 @@
 //! The life of a server: it accepts connections until a shutdown is asked for, and is then drained.
 
 ghost use Rattle.std.specs.Prelude.{◌≡◌, ◌≢◌, ◌≤◌, ◌<◌, ◌+◌, ◌⊎◌, None, Some, IfErr, IsErrOf, IsSome};
-ghost use Rattle.ftp_base.specs.Outside.{HasRisen};
-ghost use Rattle.ftp_listen.specs.Causes.{HasServed, IsPastGrace};
+ghost use Rattle.ftp_listen.specs.Causes.{HasServed};
 
 use crate::acceptor::Acceptor;
 use crate::listening::{AcceptPoll, ListeningSockets};
@@ -70,27 +69,13 @@ pub(crate) fn new_state<H: JournalHub + Drop, S: Services>(
     }
 }
 
-/// A server for one more thread, and its pass. None where no pass is left, or memory ran out: a pass goes back then.
-pub(crate) fn share_state<R: ServerRuntime, H: JournalHub + Drop, S: Services>(
-    rt: &R,
-    state: &Arc<StateOf<H, S>, Global>,
-) -> Option<(Arc<StateOf<H, S>, Global>, H::Pass)> {
-    let pass = state.share(rt)?;
-    match Arc::try_clone(state) {
-        Ok(theirs) => Some((theirs, pass)),
-        Err(_) => {
-            state.take_back(rt, pass);
-            None
-        }
-    }
-}
-
 /// A desk over a server. None where no pass is left, or memory ran out.
 pub(crate) fn desk_over<R: ServerRuntime, H: JournalHub + Drop, S: Services>(
     rt: &R,
     state: &Arc<StateOf<H, S>, Global>,
 ) -> Option<DeskOf<R, H, S>> {
-    let (theirs, pass) = share_state::<R, H, S>(rt, state)?;
+    let pass = state.share(rt)?;
+    let theirs = Arc::try_clone(state).ok()?;
     Some(ServerDesk::new(*rt, theirs, pass))
 }
 
@@ -121,9 +106,11 @@ where
     ensures front { F.faults front.old ≤ F.faults front.new }
 {
     for _ in rt.forever() {
-        poll.wait(rt, TURN);
+        acceptor.wait(poll, TURN);
         let at = front.now();
-        acceptor.take_turn(poll, sockets, spawner, at);
+        acceptor.accept_ready(poll, sockets, at);
+        acceptor.spawn_wanted(spawner);
+        acceptor.run_timers(at);
         if let Some(shutdown) = indicator.poll(at) {
             return (at, shutdown);
         }
@@ -158,18 +145,24 @@ where
     ensures front { F.faults front.old ≤ F.faults front.new }
 {
     let (asked_at, shutdown) = asked;
+    let mut is_stopped = false;
     acceptor.begin_stop();
     for _ in rt.forever() {
         let now = front.now();
         let is_late = now.saturating_sub(asked_at) > shutdown.grace_ms;
-        if acceptor.has_ended(is_late, now) {
+        if !is_stopped && (is_late || acceptor.is_left()) {
+            is_stopped = acceptor.stop(now);
+        }
+        if is_stopped && acceptor.is_drained() {
             return Ok(());
         }
         if is_late {
             return Err(ServerError::Shutdown);
         }
-        poll.wait(rt, DRAINING_TURN);
-        acceptor.take_turn(poll, sockets, spawner, now);
+        acceptor.wait(poll, DRAINING_TURN);
+        acceptor.accept_ready(poll, sockets, now);
+        acceptor.spawn_wanted(spawner);
+        acceptor.run_timers(now);
     }
     unreachable!()
 }
@@ -239,116 +232,6 @@ where
     }
 }
 
-// A server to which nothing has happened, and the wait for its connections.
-fn open_state<R: ServerRuntime, H: JournalHub + Drop, S: Services>(
-    rt: &R,
-    alloc: Global,
-    options: Options,
-    hub: H,
-    server_parts: ServerParts<S>,
-    doors: Doors,
-) -> Option<(AcceptPoll, ListeningSockets, Arc<StateOf<H, S>, Global>)>
-    requires options { options ≡ H.options }
-{
-    let Ok((poll, sockets, acceptor)) = AcceptPoll::over(rt, alloc, doors) else {
-        return None;
-    };
-    let Ok(state) = new_state::<H, S>(alloc, options, hub, server_parts, acceptor) else {
-        return None;
-    };
-    Some((poll, sockets, state))
-}
-
-// Starts a server's first thread, and gives who accepts its connections.
-fn acceptor_over<
-    R: ServerRuntime,
-    H: JournalHub + Send + Sync + Drop + 'static,
-    S: SharedServices,
-    P: Spawner,
-    F: Front,
->(
-    rt: &R,
-    alloc: Global,
-    state: Arc<StateOf<H, S>, Global>,
-    is_behind_proxy: bool,
-    spawner: &mut P,
-    front: &mut F,
-) -> Result<Acceptor<R, H, S>, ServerError>
-where
-    H::Pass: Send + 'static,
-    <S::Depot as Depot>::Store: Send + 'static,
-    <S::Depot as Depot>::Words: Send + 'static,
-    ensures listener { IsErrOf result ServerError.Listener → HasRisen (P.faults spawner.old) (P.faults spawner.new) }
-    ensures only { IfErr result (λ e. (e ≡ ServerError.Listener) ⊎ (e ≡ ServerError.OutOfMemory)) }
-    ensures spawner { P.faults spawner.old ≤ P.faults spawner.new }
-    ensures front { F.faults front.old ≤ F.faults front.new }
-{
-    let Some(desk) = desk_over::<R, H, S>(rt, &state) else {
-        return Err(ServerError::OutOfMemory);
-    };
-    if !spawn_worker::<R, H, S, P>(rt, &state, spawner) {
-        drop(desk);
-        return Err(ServerError::Listener);
-    }
-    let at = front.now();
-    Ok(Acceptor::<R, H, S>::new(*rt, alloc, state, desk, is_behind_proxy, at))
-}
-
-// Accepts connections until a shutdown is asked for, and drains the server then.
-fn accept_and_drain<
-    R: ServerRuntime,
-    H: JournalHub + Send + Sync + Drop + 'static,
-    S: SharedServices,
-    P: Spawner,
-    F: Front,
-    I: Indicator,
->(
-    rt: &R,
-    acceptor: Acceptor<R, H, S>,
-    poll: AcceptPoll,
-    sockets: ListeningSockets,
-    spawner: &mut P,
-    front: &mut F,
-    indicator: &mut I,
-) -> Result<(), ServerError>
-where
-    H::Pass: Send + 'static,
-    <S::Depot as Depot>::Store: Send + 'static,
-    <S::Depot as Depot>::Words: Send + 'static,
-    ensures shutdown { IsErrOf result ServerError.Shutdown → I.asked indicator.old ≡ None → IsPastGrace (I.asked indicator.new) (F.latest front.new) }
-    ensures has_asked { IsSome (I.asked indicator.new) }
-    ensures only { IfErr result (λ e. e ≡ ServerError.Shutdown) }
-    ensures spawner { P.faults spawner.old ≤ P.faults spawner.new }
-    ensures front { F.faults front.old ≤ F.faults front.new }
-{
-    let mut poll = poll;
-    let mut sockets = sockets;
-    let mut acceptor = acceptor;
-    let asked = accept_until_shutdown(
-        rt,
-        &mut acceptor,
-        &mut poll,
-        &sockets,
-        spawner,
-        front,
-        indicator,
-    );
-    acceptor.close_control(&mut sockets);
-    let ended = drain(
-        rt,
-        &mut acceptor,
-        &mut poll,
-        &sockets,
-        spawner,
-        front,
-        asked,
-    );
-    drop(sockets);
-    acceptor.close();
-    drop(acceptor);
-    ended
-}
-
 // Serves at these sockets over a hub.
 fn run_over<
     R: ServerRuntime,
@@ -378,26 +261,51 @@ where
     ensures front { F.faults front.old ≤ F.faults front.new }
 {
     let is_behind_proxy = options.mode.is_proxy();
-    let Some((poll, sockets, state)) = open_state::<R, H, S>(
-        rt,
-        alloc,
-        options,
-        hub,
-        server_parts,
-        doors,
-    ) else {
+    let Ok((poll, sockets, acceptor)) = AcceptPoll::over(rt, alloc, doors) else {
         return Err(ServerError::OutOfMemory);
     };
-    let acceptor = match acceptor_over::<R, H, S, P, F>(
-        rt,
+    let Ok(state) = new_state::<H, S>(alloc, options, hub, server_parts, acceptor) else {
+        return Err(ServerError::OutOfMemory);
+    };
+    let Some(desk) = desk_over::<R, H, S>(rt, &state) else {
+        return Err(ServerError::OutOfMemory);
+    };
+    if !spawn_worker::<R, H, S, P>(rt, &state, spawner) {
+        return Err(ServerError::Listener);
+    }
+    let mut poll = poll;
+    let mut acceptor = Acceptor::<R, H, S>::new(
+        *rt,
         alloc,
         state,
+        desk,
         is_behind_proxy,
+        front.now(),
+    );
+    let asked = accept_until_shutdown(
+        rt,
+        &mut acceptor,
+        &mut poll,
+        &sockets,
         spawner,
         front,
-    ) {
-        Ok(acceptor) => acceptor,
-        Err(error) => return Err(error),
-    };
-    accept_and_drain(rt, acceptor, poll, sockets, spawner, front, indicator)
+        indicator,
+    );
+    let mut sockets = sockets;
+    // A proxy passes data connections on to the control port too.
+    if !is_behind_proxy {
+        sockets.close_control();
+    }
+    let ended = drain(
+        rt,
+        &mut acceptor,
+        &mut poll,
+        &sockets,
+        spawner,
+        front,
+        asked,
+    );
+    drop(sockets);
+    acceptor.close();
+    ended
 }

@@ -6,15 +6,13 @@ ghost use Rattle.ftp_options.specs.Modes.{is_legacy};
 
 use crate::listening::AcceptPoll;
 use crate::parts::{BoxedServices, ServerParts};
-use crate::running::{PARTS, desk_over, new_state, share_state};
+use crate::running::{PARTS, desk_over, new_state};
 use crate::spawning::spawn_wanted;
-use ftp_base::Spawner;
 use ftp_options::{ListenerMode, Options, ServerError};
 use ftp_shared::{CutHub, JournalHub, Serving, SharedHub};
 use ftp_system::{Depot, Front, OpenGate, ServerRuntime, SystemFront, SystemThreads};
 use ftp_talk::ServeEnd;
 use ftp_workers::{DeskOf, Services, SharedServices, StateOf, Worker};
-use mio::Waker;
 use std::alloc::Global;
 use std::marker::Brand;
 use std::net::{SocketAddr, TcpStream};
@@ -22,6 +20,7 @@ use std::sync::Arc;
 use std::sync::atomic::{AtomicBool, Ordering};
 use std::sync::ledger::Blank;
 use std::thread;
+use std::time::Duration;
 
 /// How long one wait for a thread that is wanted is, in milliseconds.
 const TURN: u64 = 100;
@@ -70,53 +69,7 @@ fn served<R: ServerRuntime, H: JournalHub + Drop, S: Services>(
     }
 }
 
-// Takes in the data connections that the last wait reported, and closes ports that have waited too long.
-fn receive_ready<R: ServerRuntime, H: JournalHub + Drop, S: Services>(
-    desk: &mut DeskOf<R, H, S>,
-    poll: &AcceptPoll,
-    at: u64,
-) {
-    for event in poll.events().iter() {
-        if let Some(session) = event.token().0.checked_sub(1) {
-            desk.accept_for(at, session as u64);
-        }
-    }
-    desk.close_listeners(at);
-}
-
 // Starts the threads that are wanted and takes data connections in, until the connection is over and all transfers are.
-fn spawn_until_over<
-    R: ServerRuntime,
-    H: JournalHub + Send + Sync + Drop + 'static,
-    S: SharedServices,
-    P: Spawner,
-    F: Front,
->(
-    rt: &R,
-    state: &Arc<StateOf<H, S>, Global>,
-    desk: &mut DeskOf<R, H, S>,
-    poll: &mut AcceptPoll,
-    spawner: &mut P,
-    front: &mut F,
-    is_over: &AtomicBool,
-)
-where
-    H::Pass: Send + 'static,
-    <S::Depot as Depot>::Store: Send + 'static,
-    <S::Depot as Depot>::Words: Send + 'static,
-{
-    let mut owed = 0;
-    for _ in rt.forever() {
-        owed = spawn_wanted::<R, H, S, P>(rt, state, spawner, owed);
-        if is_over.load(Ordering::SeqCst) && state.drained(rt) {
-            return;
-        }
-        poll.wait(rt, TURN);
-        receive_ready::<R, H, S>(desk, poll, front.now());
-    }
-}
-
-// Does so with the threads and the clock of the system.
 fn spawn_on<R: ServerRuntime, H: JournalHub + Send + Sync + Drop + 'static, S: SharedServices>(
     rt: &R,
     alloc: Global,
@@ -131,16 +84,25 @@ where
     <S::Depot as Depot>::Words: Send + 'static,
 {
     let mut desk = desk;
-    spawn_until_over::<R, H, S, _, _>(
-        rt,
-        state,
-        &mut desk,
-        poll,
-        &mut SystemThreads::new(),
-        &mut SystemFront::new(*rt, alloc),
-        is_over,
-    );
-    drop(desk);
+    let mut front = SystemFront::new(*rt, alloc);
+    let mut threads = SystemThreads::new();
+    let mut owed = 0;
+    for _ in rt.forever() {
+        owed = spawn_wanted::<R, H, S, _>(rt, state, &mut threads, owed);
+        if is_over.load(Ordering::SeqCst) && state.drained(rt) {
+            return;
+        }
+        if poll.wait(TURN).is_err() {
+            thread::sleep(rt, Duration::from_millis(TURN));
+        }
+        let at = front.now();
+        for event in poll.events().iter() {
+            if let Some(session) = event.token().0.checked_sub(1) {
+                desk.accept_for(at, session as u64);
+            }
+        }
+        desk.close_listeners(at);
+    }
 }
 
 // Serves a connection with a hub of its own, which keeps its whole journal or a checkpoint and a tail.
@@ -180,38 +142,6 @@ where
     }
 }
 
-// A server to which nothing has happened, the wait for its data connections, and what ends that wait.
-fn open_alone<R: ServerRuntime, H: JournalHub + Drop, S: Services>(
-    rt: &R,
-    alloc: Global,
-    options: Options,
-    hub: H,
-    server_parts: ServerParts<S>,
-) -> Option<(AcceptPoll, Arc<Waker, Global>, Arc<StateOf<H, S>, Global>)>
-    requires options { options ≡ H.options }
-{
-    let Ok((poll, acceptor)) = AcceptPoll::inside(rt, alloc) else {
-        return None;
-    };
-    let Ok(waker) = Arc::try_clone(&acceptor.waker) else {
-        return None;
-    };
-    let Ok(state) = new_state::<H, S>(alloc, options, hub, server_parts, acceptor) else {
-        return None;
-    };
-    Some((poll, waker, state))
-}
-
-// The state and a pass for the thread that serves the connection, and a desk for the one beside it.
-fn share_twice<R: ServerRuntime, H: JournalHub + Drop, S: Services>(
-    rt: &R,
-    state: &Arc<StateOf<H, S>, Global>,
-) -> Option<(Arc<StateOf<H, S>, Global>, H::Pass, DeskOf<R, H, S>)> {
-    let (theirs, pass) = share_state::<R, H, S>(rt, state)?;
-    let desk = desk_over::<R, H, S>(rt, state)?;
-    Some((theirs, pass, desk))
-}
-
 // Serves a connection over a hub of its own.
 fn serve_over<R: ServerRuntime, H: JournalHub + Send + Sync + Drop + 'static, S: SharedServices>(
     rt: &R,
@@ -229,37 +159,21 @@ where
     requires options { options ≡ H.options }
     ensures only { IfErr result (λ e. (e ≡ ServerError.Io) ⊎ (e ≡ ServerError.OutOfMemory)) }
 {
-    let Some((poll, waker, state)) = open_alone::<R, H, S>(rt, alloc, options, hub, server_parts)
-    else {
+    let Ok((poll, acceptor)) = AcceptPoll::inside(rt, alloc) else {
         return Err(ServerError::OutOfMemory);
     };
-    let Some((theirs, pass, desk)) = share_twice::<R, H, S>(rt, &state) else {
+    let Ok(waker) = Arc::try_clone(&acceptor.waker) else {
         return Err(ServerError::OutOfMemory);
     };
-    serve_beside::<R, H, S>(
-        rt, alloc, state, theirs, pass, desk, poll, waker, stream, raw,
-    )
-}
-
-// Serves a connection in one thread, and its transfers beside it in others.
-fn serve_beside<R: ServerRuntime, H: JournalHub + Send + Sync + Drop + 'static, S: SharedServices>(
-    rt: &R,
-    alloc: Global,
-    state: Arc<StateOf<H, S>, Global>,
-    theirs: Arc<StateOf<H, S>, Global>,
-    pass: H::Pass,
-    desk: DeskOf<R, H, S>,
-    poll: AcceptPoll,
-    waker: Arc<Waker, Global>,
-    stream: TcpStream,
-    raw: SocketAddr,
-) -> Result<(), ServerError>
-where
-    H::Pass: Send + 'static,
-    <S::Depot as Depot>::Store: Send + 'static,
-    <S::Depot as Depot>::Words: Send + 'static,
-    ensures only { IfErr result (λ e. (e ≡ ServerError.Io) ⊎ (e ≡ ServerError.OutOfMemory)) }
-{
+    let Ok(state) = new_state::<H, S>(alloc, options, hub, server_parts, acceptor) else {
+        return Err(ServerError::OutOfMemory);
+    };
+    let (Some(pass), Ok(theirs)) = (state.share(rt), Arc::try_clone(&state)) else {
+        return Err(ServerError::OutOfMemory);
+    };
+    let Some(desk) = desk_over::<R, H, S>(rt, &state) else {
+        return Err(ServerError::OutOfMemory);
+    };
     let mut poll = poll;
     let over = AtomicBool::new(false);
     let is_over = &over;

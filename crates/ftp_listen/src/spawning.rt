@@ -3,7 +3,6 @@
 ghost use Rattle.std.specs.Prelude.{◌≡◌, ◌≤◌, false};
 ghost use Rattle.ftp_base.specs.Outside.{HasRisen};
 
-use crate::running::share_state;
 use ftp_base::Spawner;
 use ftp_shared::JournalHub;
 use ftp_system::{Depot, ServerRuntime, start};
@@ -26,7 +25,11 @@ where
     ensures fault_rose { result ≡ false → HasRisen (P.faults spawner.old) (P.faults spawner.new) }
     ensures count { P.faults spawner.old ≤ P.faults spawner.new }
 {
-    let Some((theirs, pass)) = share_state::<R, H, S>(rt, state) else {
+    let Some(pass) = state.share(rt) else {
+        return true;
+    };
+    let Ok(theirs) = Arc::try_clone(state) else {
+        state.take_back(rt, pass);
         return true;
     };
     let rt = *rt;

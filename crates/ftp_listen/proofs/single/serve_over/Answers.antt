@@ -1,5 +1,5 @@
 use denote.Param.Send.{sendable}
-use Rattle.ftp_listen.proofs.single.serve_beside.Goals as goal
+use Rattle.ftp_listen.proofs.single.serve_over.Goals as goal
 
 -- what either thread is handed lives for ever, and may go there: so the function's own bounds say it
 pub join-end-requires-after_bounds : goal.join-end-requires-after_bounds

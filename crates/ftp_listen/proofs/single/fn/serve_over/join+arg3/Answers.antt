@@ -1,5 +1,5 @@
 use denote.Param.Send.{param_send}
-use Rattle.ftp_listen.proofs.single.fn.serve_beside.join+arg3.Goals as goal
+use Rattle.ftp_listen.proofs.single.fn.serve_over.join+arg3.Goals as goal
 
 -- what the closure requires of the types of its server is what the call does
 pub spawn_on-requires-send-H : goal.spawn_on-requires-send-H
